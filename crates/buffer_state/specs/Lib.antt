@@ -1,0 +1,12 @@
+pub mod Buffer
+pub mod Limits
+pub mod WellFormed
+pub mod Refusals
+pub mod Store
+pub mod Append
+pub mod Remove
+pub mod Settings
+pub mod Ranges
+pub mod Layout
+pub mod Run
+pub mod Soundings

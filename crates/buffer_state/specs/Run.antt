@@ -1,0 +1,144 @@
+-- Document 01, "The whole account": the plain run over a list of calls, and what it counts.
+use mathlib.Core.Bool.{Bool, true, false, cond, _&&_}
+use mathlib.Core.List.{List, [], _∷_, _++_}
+use Prim.Native.Nat.{ℕ, _+_, _-_}
+use lib.Dec.{leb, eqb}
+use lib.Ieee.{Float}
+use lib.ListN.{getD}
+use Rattle.buffer_state.specs.declared.Frame.{Frame}
+use Rattle.buffer_state.specs.declared.Mode.{Mode}
+use Rattle.buffer_state.specs.declared.Offered.{Offered}
+use Rattle.buffer_state.specs.Buffer.{Buffer}
+use Rattle.buffer_state.specs.Refusals.{Result, refused, done}
+use Rattle.buffer_state.specs.Store.{Line}
+use Rattle.buffer_state.specs.Append.{Outcome, append}
+use Rattle.buffer_state.specs.Remove.{remove}
+use Rattle.buffer_state.specs.Settings.{aborted, modeSet, offsetSet, windowStartSet, windowEndSet, Reading, reading}
+use Rattle.buffer_state.specs.Ranges.{Range, trackRanges, commonRanges}
+
+-- a call with its arguments except the state; of a lent list, how many places it has
+pub data Call : Type 0 where
+  appendCall : ℕ → Offered → Call
+  removeCall : ℕ → Float → Float → Call
+  abortCall : Call
+  modeCall : Mode → Call
+  offsetCall : Float → Call
+  windowStartCall : Float → Call
+  windowEndCall : Float → Call
+  readCall : Call
+  rangesCall : ℕ → ℕ → Call
+  commonCall : ℕ → Call
+
+-- what a call that is not refused hands out
+pub data Answer : Type 0 where
+  ok : Answer
+  fates : List Line → Answer
+  settings : Reading → Answer
+  ranges : List Range → Answer
+
+-- a call's result, and the buffer after it
+pub record Reply : Type 0 where
+  pub result : Result Answer
+  pub after : Buffer
+
+-- ---- one call: a refusal changes nothing, and neither does a call that only reads
+
+abbrev pub byOutcome : Buffer → Result Outcome → Reply
+byOutcome b (refused why) = record { result = refused why; after = b }
+byOutcome b (done o) = record { result = done (fates (o .lines)); after = o .after }
+
+abbrev pub bySetting : Buffer → Result Buffer → Reply
+bySetting b (refused why) = record { result = refused why; after = b }
+bySetting b (done c) = record { result = done ok; after = c }
+
+abbrev pub byRanges : Buffer → Result (List Range) → Reply
+byRanges b (refused why) = record { result = refused why; after = b }
+byRanges b (done rs) = record { result = done (ranges rs); after = b }
+
+unfoldable pub replyTo : Call → Buffer → Reply
+replyTo (appendCall lent f) b = byOutcome b (append lent f b)
+replyTo (removeCall lent start end) b = byOutcome b (remove lent start end b)
+replyTo abortCall b = record { result = done ok; after = aborted b }
+replyTo (modeCall m) b = record { result = done ok; after = modeSet m b }
+replyTo (offsetCall x) b = bySetting b (offsetSet x b)
+replyTo (windowStartCall x) b = bySetting b (windowStartSet x b)
+replyTo (windowEndCall x) b = bySetting b (windowEndSet x b)
+replyTo readCall b = record { result = done (settings (reading b)); after = b }
+replyTo (rangesCall lent track) b = byRanges b (trackRanges lent track b)
+replyTo (commonCall lent) b = byRanges b (commonRanges lent b)
+
+-- ---- the run
+
+-- a call of the run, with its result
+pub record Entry : Type 0 where
+  pub call : Call
+  pub result : Result Answer
+
+unfoldable pub run : Buffer → List Call → List Entry
+run b [] = []
+run b (c ∷ cs) = let r = replyTo c b in record { call = c; result = r .result } ∷ run (r .after) cs
+
+unfoldable pub lastOf : Buffer → List Call → Buffer
+lastOf b [] = b
+lastOf b (c ∷ cs) = lastOf (replyTo c b .after) cs
+
+-- ---- what it counts
+
+-- A list may be lent again; what counts is what it holds, up to the count, when its call returns.
+abbrev pub linesIn : Result Answer → List Line
+linesIn (refused why) = []
+linesIn (done ok) = []
+linesIn (done (fates ls)) = ls
+linesIn (done (settings r)) = []
+linesIn (done (ranges rs)) = []
+
+-- the lines that a run hands out
+unfoldable pub handedOut : List Entry → List Line
+handedOut [] = []
+handedOut (e ∷ es) = linesIn (e .result) ++ handedOut es
+
+-- the tracks of the frames offered by a call: of an append that is not refused, the one that it names
+abbrev pub offeredBy : Call → Result Answer → List ℕ
+offeredBy (appendCall lent f) (refused why) = []
+offeredBy (appendCall lent f) (done a) = f .track ∷ []
+offeredBy (removeCall lent start end) r = []
+offeredBy abortCall r = []
+offeredBy (modeCall m) r = []
+offeredBy (offsetCall x) r = []
+offeredBy (windowStartCall x) r = []
+offeredBy (windowEndCall x) r = []
+offeredBy readCall r = []
+offeredBy (rangesCall lent track) r = []
+offeredBy (commonCall lent) r = []
+
+-- the tracks of all frames offered in a run: the n-th over all tracks is frame n
+unfoldable pub offers : List Entry → List ℕ
+offers [] = []
+offers (e ∷ es) = offeredBy (e .call) (e .result) ++ offers es
+
+abbrev pub trackOffered : List ℕ → ℕ → ℕ
+trackOffered tracks n = getD tracks (n - 1) 0
+
+-- how many elements pass
+unfoldable pub count : {A : Type 0} → (A → Bool) → List A → ℕ
+count p [] = 0
+count p (x ∷ xs) = cond (p x) 1 0 + count p xs
+
+-- Offered on a track: the run's appends not refused that name it.
+unfoldable pub offeredOn : ℕ → List Entry → ℕ
+offeredOn track es = count (eqb track) (offers es)
+
+-- Stored: the track's frames in the last state.
+unfoldable pub storedOn : ℕ → Buffer → ℕ
+storedOn track b = count (λ (f : Frame). eqb track (f .track)) (b .frames)
+
+-- A line counts for the track on which its frame was offered: dropped with causes 1 to 3, removed with 4 to 6.
+unfoldable pub toldOn : ℕ → ℕ → ℕ → List Entry → ℕ
+toldOn least most track es =
+    count (λ (l : Line). eqb track (trackOffered (offers es) (l .number)) && (leb least (l .cause) && leb (l .cause) most)) (handedOut es)
+
+abbrev pub droppedOn : ℕ → List Entry → ℕ
+droppedOn = toldOn 1 3
+
+abbrev pub removedOn : ℕ → List Entry → ℕ
+removedOn = toldOn 4 6

@@ -1,0 +1,89 @@
+// The state of a frame buffer, by value, and what its calls are handed and answer.
+// What each call does to it is defined in specs/, a file for each section of document 01.
+
+// A coded frame as offered to an append. Times are microseconds.
+pub struct Offered {
+    pub track: u8,
+    pub flagged: bool, // a random access point
+    pub duration: u32,
+    pub pts: i64, // presentation timestamp
+    pub dts: i64, // decode timestamp
+}
+
+// A stored coded frame. Its times have the timestamp offset added.
+pub struct Frame {
+    pub track: u8,
+    pub flagged: bool,
+    pub duration: u32,
+    pub number: u32, // frame numbers are given from 1 in the order of the appends
+    pub pts: i64,
+    pub dts: i64,
+}
+
+// A track buffer. The last decode timestamp, the last frame duration and the highest end timestamp are
+// set together and unset together, so one flag says which; unset they are kept as zero.
+pub struct Track {
+    pub kind: u8, // 0 video, 1 audio
+    pub known: bool,
+    pub need: bool, // need random access point
+    pub duration: u32,
+    pub dts: i64,
+    pub end: i64,
+}
+
+pub enum Mode {
+    Segments,
+    Sequence,
+}
+
+// The group start timestamp (kept as zero where it is unset) and the group end timestamp.
+pub struct Group {
+    pub begun: bool, // the group start is set
+    pub start: i64,
+    pub end: i64,
+}
+
+// A setting: the double as it was given, bit for bit, beside its microseconds.
+pub struct Setting {
+    pub seconds: f64,
+    pub micros: i64,
+}
+
+// The append window's end: none, or the double given.
+pub enum WindowEnd {
+    Unbounded,
+    At(f64),
+}
+
+pub struct Settings {
+    pub offset: Setting, // timestamp offset
+    pub start: Setting,  // append window start
+    pub end: WindowEnd,
+    pub limit: i64, // the window end in microseconds, zero where there is none
+}
+
+pub struct State {
+    pub frames: [Frame; 1024],
+    pub nframes: usize,
+    pub tracks: [Track; 4],
+    pub ntracks: usize,
+    pub mode: Mode,
+    pub group: Group,
+    pub last: u32, // the last frame number given
+    pub settings: Settings,
+}
+
+// Why a call is refused, in the order of document 01's table; specs/Refusals.antt gives the numbers.
+pub enum Refusal {
+    IllFormed,
+    ShortFates,
+    NoTrack,
+    FrameLimits,
+    Seconds,
+    Order,
+    ResultLimits,
+    Full,
+    LastNumber,
+    ShortRanges,
+    Kinds,
+}

@@ -1,0 +1,1 @@
+// Laws on numbers and lists that every proof uses: see proofs/. There is no code here.
