@@ -42,6 +42,15 @@ unfoldable pub inRanges : ℤ → List Range → Bool
 inRanges t [] = false
 inRanges t (r ∷ rs) = liesIn t r || inRanges t rs
 
+abbrev pub endsBefore : Range → List Range → Bool
+endsBefore r [] = true
+endsBefore r (q ∷ qs) = ltZ (r .end) (q .start)
+
+-- in rising order, none empty, each ending strictly before the next starts
+unfoldable pub rising : List Range → Bool
+rising [] = true
+rising (r ∷ rs) = ltZ (r .start) (r .end) && (endsBefore r rs && rising rs)
+
 abbrev pub lesser : ℤ → ℤ → ℤ
 lesser a b = cond (ltZ b a) b a
 

@@ -1,0 +1,251 @@
+-- Document 01, "Soundings to check against": cases A to K in one table, each with its whole outcome, and one proof over all of it.
+-- Video, one track, durations 100; R is a flagged frame, P one that is not, both given by presentation and decode time.
+use mathlib.Core.Path.{_≡_, refl}
+use mathlib.Core.Bool.{Bool, true, false}
+use mathlib.Core.List.{List, [], _∷_, map}
+use Prim.Native.Nat.{ℕ}
+use lib.IntN.{ℤ, pos, negℤ}
+use lib.Ieee.{Float, binary64, ofBits, ofInt, div}
+use Rattle.seconds.specs.Seconds.{tieOf, roundOf, nearestOf, convertible, convertibleEnd, microsOf, secondsOf, boundOf, sameInt, zeroSeconds}
+use Rattle.buffer_state.specs.declared.Frame.{Frame}
+use Rattle.buffer_state.specs.declared.Track.{Track}
+use Rattle.buffer_state.specs.declared.Mode.{Mode}
+use Rattle.buffer_state.specs.declared.Mode.the-variants.{Segments, Sequence}
+use Rattle.buffer_state.specs.declared.Group.{Group}
+use Rattle.buffer_state.specs.declared.Settings.{Settings}
+use Rattle.buffer_state.specs.declared.WindowEnd.the-variants.{Unbounded, At}
+use Rattle.buffer_state.specs.Buffer.{Buffer, fresh, freshTrack, freshSettings}
+use Rattle.buffer_state.specs.Limits.{offeredTime, resultTime, goodDuration}
+use Rattle.buffer_state.specs.Refusals.{Result, done}
+use Rattle.buffer_state.specs.Store.{before, insertSorted, followsTaken, walkFrom, kept, Line, linesOf}
+use Rattle.buffer_state.specs.Append.{stepOne, stepTwo, passOf, fits, regrouped, breaks, secondPass, lastPass, leavesLimits, overlapped, overlapMarks, stepNine, stored, settled, appended, offerable, append}
+use Rattle.buffer_state.specs.Remove.{farEdge, removalMarks, afterLoss, removed, remove}
+use Rattle.buffer_state.specs.Settings.{aborted, modeSet, offsetSet, windowStartSet, windowEndSet}
+use Rattle.buffer_state.specs.Ranges.{Range, joined, rangesOf}
+use Rattle.buffer_state.specs.Run.{Call, appendCall, removeCall, abortCall, modeCall, offsetCall, windowStartCall, windowEndCall, Answer, ok, fates, Entry, replyTo, run, lastOf}
+
+-- a case: the calls on a fresh buffer of one video track, and what they come to
+pub record Case : Type 0 where
+  pub calls : List Call
+  pub results : List (Result Answer)
+  pub left : Buffer
+  pub ranges : List Range
+
+-- ---- the words of the table
+
+abbrev R : ℕ → ℕ → Call
+R p d = appendCall 1024 (record { track = 1; flagged = true; duration = 100; pts = pos p; dts = pos d })
+
+abbrev P : ℕ → ℕ → Call
+P p d = appendCall 1024 (record { track = 1; flagged = false; duration = 100; pts = pos p; dts = pos d })
+
+abbrev removing : Float → Float → Call
+removing = removeCall 1024
+
+-- a stored frame: its number, its flag and its two times
+abbrev frameAt : ℕ → Bool → ℤ → ℤ → Frame
+frameAt n flagged p d = record { track = 1; flagged = flagged; duration = 100; number = n; pts = p; dts = d }
+
+abbrev frame : ℕ → Bool → ℕ → ℕ → Frame
+frame n flagged p d = frameAt n flagged (pos p) (pos d)
+
+-- the track with last decode time and highest end set, the last duration 100 and need-random-access off
+abbrev following : ℕ → ℕ → Track
+following d e = record { kind = 0; known = true; need = false; duration = 100; dts = pos d; end = pos e }
+
+-- the three unset and need-random-access on
+abbrev waiting : Track
+waiting = freshTrack 0
+
+-- a group end, with no group start
+abbrev ending : ℕ → Group
+ending e = record { begun = false; start = pos 0; end = pos e }
+
+abbrev told : List Line → Result Answer
+told ls = done (fates ls)
+
+abbrev line : ℕ → ℕ → Line
+line n cause = record { number = n; cause = cause }
+
+abbrev range : ℕ → ℕ → Range
+range a b = record { start = pos a; end = pos b }
+
+abbrev double : ℕ → Float
+double = ofBits binary64
+
+-- in segments mode with the settings of a fresh buffer: track, stored frames, group end, last number
+abbrev plain : Track → List Frame → ℕ → ℕ → Buffer
+plain t fs e n = record { tracks = t ∷ []; frames = fs; mode = Segments; group = ending e; last = n; settings = freshSettings }
+
+-- the doubles nearest to 0.00005, 0.00015, 0.00025 and 0.00035
+abbrev at50 : Float
+at50 = double 0x3f0a_36e2_eb1c_432d
+
+abbrev at150 : Float
+at150 = double 0x3f23_a92a_3055_3261
+
+abbrev at250 : Float
+at250 = double 0x3f30_624d_d2f1_a9fc
+
+abbrev at350 : Float
+at350 = double 0x3f36_f006_8db8_bac7
+
+-- ---- the cases
+
+-- R 0, P 100: ranges [0,200).
+abbrev caseA : Case
+caseA = record {
+  calls = R 0 0 ∷ P 100 100 ∷ [];
+  results = told [] ∷ told [] ∷ [];
+  left = plain (following 100 200) (frame 1 true 0 0 ∷ frame 2 false 100 100 ∷ []) 200 2;
+  ranges = range 0 200 ∷ [];
+}
+
+-- A, then P shown 400 decoded 300: kept, ranges [0,200) [400,500).
+abbrev caseB : Case
+caseB = record {
+  calls = R 0 0 ∷ P 100 100 ∷ P 400 300 ∷ [];
+  results = told [] ∷ told [] ∷ told [] ∷ [];
+  left = plain (following 300 500) (frame 1 true 0 0 ∷ frame 2 false 100 100 ∷ frame 3 false 400 300 ∷ []) 500 3;
+  ranges = range 0 200 ∷ range 400 500 ∷ [];
+}
+
+-- A, then P shown 400 decoded 301: dropped, cause 3, group end 400.
+abbrev caseC : Case
+caseC = record {
+  calls = R 0 0 ∷ P 100 100 ∷ P 400 301 ∷ [];
+  results = told [] ∷ told [] ∷ told (line 3 3 ∷ []) ∷ [];
+  left = plain waiting (frame 1 true 0 0 ∷ frame 2 false 100 100 ∷ []) 400 3;
+  ranges = range 0 200 ∷ [];
+}
+
+-- R 0, P 101: two ranges, [0,100) [101,201).
+abbrev caseD : Case
+caseD = record {
+  calls = R 0 0 ∷ P 101 101 ∷ [];
+  results = told [] ∷ told [] ∷ [];
+  left = plain (following 101 201) (frame 1 true 0 0 ∷ frame 2 false 101 101 ∷ []) 201 2;
+  ranges = range 0 100 ∷ range 101 201 ∷ [];
+}
+
+-- R 0, P 100, P 200, R 300, abort, R 100: whole fate list of the last call (2,4) (3,5); store order 1, 5, 4; ranges
+-- [0,200) [300,400).
+abbrev caseE : Case
+caseE = record {
+  calls = R 0 0 ∷ P 100 100 ∷ P 200 200 ∷ R 300 300 ∷ abortCall ∷ R 100 100 ∷ [];
+  results = told [] ∷ told [] ∷ told [] ∷ told [] ∷ done ok ∷ told (line 2 4 ∷ line 3 5 ∷ []) ∷ [];
+  left = plain (following 100 200) (frame 1 true 0 0 ∷ frame 5 true 100 100 ∷ frame 4 true 300 300 ∷ []) 400 5;
+  ranges = range 0 200 ∷ range 300 400 ∷ [];
+}
+
+-- R 0, abort, R shown 200 decoded 0, P shown 0 decoded 100: all three stored, order 1, 2, 3, ranges [0,100) [200,300).
+abbrev caseF : Case
+caseF = record {
+  calls = R 0 0 ∷ abortCall ∷ R 200 0 ∷ P 0 100 ∷ [];
+  results = told [] ∷ done ok ∷ told [] ∷ told [] ∷ [];
+  left = plain (following 100 300) (frame 1 true 0 0 ∷ frame 2 true 200 0 ∷ frame 3 false 0 100 ∷ []) 300 3;
+  ranges = range 0 100 ∷ range 200 300 ∷ [];
+}
+
+-- Fresh, sequence mode: R shown 5000 decoded 4900 lands at 0 and -100. R shown 9000 decoded 8900 then lands at 100 and 0,
+-- offset -8900 (its double is the one nearest to -0.0089); ranges [0,200).
+abbrev caseG : Case
+caseG = record {
+  calls = modeCall Sequence ∷ R 5000 4900 ∷ R 9000 8900 ∷ [];
+  results = done ok ∷ told [] ∷ told [] ∷ [];
+  left = record {
+    tracks = following 0 200 ∷ [];
+    frames = frameAt 1 true (pos 0) (negℤ (pos 100)) ∷ frame 2 true 100 0 ∷ [];
+    mode = Sequence;
+    group = ending 200;
+    last = 2;
+    settings = record {
+      offset = record { seconds = double 0xbf82_3a29_c779_a6b5; micros = negℤ (pos 8900) };
+      start = freshSettings .start;
+      end = Unbounded;
+      limit = pos 0;
+    };
+  };
+  ranges = range 0 200 ∷ [];
+}
+
+-- E's first four, remove 0.00015 to 0.00025: (3,6), ranges [0,200) [300,400).
+abbrev caseH : Case
+caseH = record {
+  calls = R 0 0 ∷ P 100 100 ∷ P 200 200 ∷ R 300 300 ∷ removing at150 at250 ∷ [];
+  results = told [] ∷ told [] ∷ told [] ∷ told [] ∷ told (line 3 6 ∷ []) ∷ [];
+  left = plain (following 300 400) (frame 1 true 0 0 ∷ frame 2 false 100 100 ∷ frame 4 true 300 300 ∷ []) 400 4;
+  ranges = range 0 200 ∷ range 300 400 ∷ [];
+}
+
+-- The same, remove 0.00015 to 0.00035: (3,6) (4,6), group end 300, the three unset.
+abbrev caseI : Case
+caseI = record {
+  calls = R 0 0 ∷ P 100 100 ∷ P 200 200 ∷ R 300 300 ∷ removing at150 at350 ∷ [];
+  results = told [] ∷ told [] ∷ told [] ∷ told [] ∷ told (line 3 6 ∷ line 4 6 ∷ []) ∷ [];
+  left = plain waiting (frame 1 true 0 0 ∷ frame 2 false 100 100 ∷ []) 300 4;
+  ranges = range 0 200 ∷ [];
+}
+
+-- Window 0.00005 to 0.00015, and one frame: R 49 dropped, cause 1; R 50 kept; R 51 dropped, cause 2.
+abbrev caseJ : ℕ → List Line → Track → List Frame → ℕ → List Range → Case
+caseJ p lines t fs e rs = record {
+  calls = windowStartCall at50 ∷ windowEndCall at150 ∷ R p p ∷ [];
+  results = done ok ∷ done ok ∷ told lines ∷ [];
+  left = record {
+    tracks = t ∷ [];
+    frames = fs;
+    mode = Segments;
+    group = ending e;
+    last = 1;
+    settings = record { offset = freshSettings .offset; start = record { seconds = at50; micros = pos 50 }; end = At at150; limit = pos 150 };
+  };
+  ranges = rs;
+}
+
+-- A double in seconds, set as the offset: so many microseconds, and the double is kept as it was given.
+abbrev caseK : ℕ → ℤ → Case
+caseK bits z = record {
+  calls = offsetCall (double bits) ∷ [];
+  results = done ok ∷ [];
+  left = record {
+    tracks = waiting ∷ [];
+    frames = [];
+    mode = Segments;
+    group = ending 0;
+    last = 0;
+    settings = record { offset = record { seconds = double bits; micros = z }; start = freshSettings .start; end = Unbounded; limit = pos 0 };
+  };
+  ranges = [];
+}
+
+-- The table. K: 0.0078125 gives 7812, 0.0234375 gives 23438, -0.0078125 gives -7812, the smallest positive double gives 0,
+-- 1,000,000 gives 1,000,000,000,000.
+abbrev pub table : List Case
+table =
+    caseA ∷ caseB ∷ caseC ∷ caseD ∷ caseE ∷ caseF ∷ caseG ∷ caseH ∷ caseI
+    ∷ caseJ 49 (line 1 1 ∷ []) waiting [] 0 []
+    ∷ caseJ 50 [] (following 50 150) (frame 1 true 50 50 ∷ []) 150 (range 50 150 ∷ [])
+    ∷ caseJ 51 (line 1 2 ∷ []) waiting [] 0 []
+    ∷ caseK 0x3f80_0000_0000_0000 (pos 7812)
+    ∷ caseK 0x3f98_0000_0000_0000 (pos 23438)
+    ∷ caseK 0xbf80_0000_0000_0000 (negℤ (pos 7812))
+    ∷ caseK 0x0000_0000_0000_0001 (pos 0)
+    ∷ caseK 0x412e_8480_0000_0000 (pos 1000000000000)
+    ∷ []
+
+-- what the definitions make of a case's calls
+abbrev pub computed : Case → Case
+computed c =
+    let start = fresh (0 ∷ []) in
+    let end = lastOf start (c .calls) in
+    record {
+      calls = c .calls;
+      results = map (λ (e : Entry). e .result) (run start (c .calls));
+      left = end;
+      ranges = rangesOf 1 (end .frames);
+    }
+
+pub soundings-hold : map computed table ≡ table
+unfolding tieOf roundOf nearestOf convertible convertibleEnd microsOf secondsOf boundOf sameInt offeredTime resultTime goodDuration before insertSorted followsTaken walkFrom kept linesOf stepOne stepTwo passOf fits regrouped breaks secondPass lastPass leavesLimits overlapped overlapMarks stepNine stored settled appended offerable append farEdge removalMarks afterLoss removed remove aborted modeSet offsetSet windowStartSet windowEndSet joined rangesOf replyTo run lastOf ofBits ofInt div
+soundings-hold = refl
