@@ -1,0 +1,4 @@
+pub mod TestLaws
+pub mod LayoutLaws
+pub mod OrderLaws
+pub mod StoreLaws

@@ -1,7 +1,7 @@
 -- Document 01, "Well-formed state": every condition of that section, on a buffer's contents.
 -- Layout.antt adds what a State says beyond them: its counts, and zeros past them.
 use mathlib.Core.Bool.{Bool, true, false, cond, not, _&&_, _||_}
-use mathlib.Core.List.{List, [], _∷_, map}
+use mathlib.Core.List.{List, [], _∷_}
 use Prim.Native.Nat.{ℕ}
 use lib.Dec.{leb, ltb, eqb}
 use lib.IntN.{ℤ, pos}
@@ -59,7 +59,7 @@ goodFrame tracks last f =
 
 -- no two frames have one number
 unfoldable pub distinctNumbers : List Frame → Bool
-distinctNumbers fs = pairwise (λ (a b : ℕ). not (eqb a b)) (map (λ (f : Frame). f .number) fs)
+distinctNumbers = pairwise (λ (a b : Frame). not (eqb (a .number) (b .number)))
 
 -- Sorted by track, then decode time, then number: each frame comes before each that follows it.
 unfoldable pub sorted : List Frame → Bool

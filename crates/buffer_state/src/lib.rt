@@ -57,7 +57,7 @@ pub enum WindowEnd {
 
 pub struct Settings {
     pub offset: Setting, // timestamp offset
-    pub start: Setting,  // append window start
+    pub start: Setting, // append window start
     pub end: WindowEnd,
     pub limit: i64, // the window end in microseconds, zero where there is none
 }
