@@ -1,4 +1,13 @@
 pub mod TestLaws
 pub mod LayoutLaws
+pub mod RisingLaws
+pub mod RangeLaws
+pub mod CommonLaws
 pub mod OrderLaws
 pub mod StoreLaws
+pub mod GoodLaws
+pub mod AppendLaws
+pub mod RemoveLaws
+pub mod SettingLaws
+pub mod RunLaws
+pub mod AccountLaws

@@ -1,7 +1,7 @@
--- `allOf` and `pairwise` through `map`, `set`, `getD`, `replicate` and a change of the test, by induction on the list.
+-- `allOf` and `pairwise` through `map`, `set`, `getD`, `replicate`, `++` and a change of the test, by induction on the list.
 use mathlib.Core.Path.{_≡_, refl, sym}
 use mathlib.Core.Bool.{Bool, true, false, cond, _&&_}
-use mathlib.Core.List.{List, [], _∷_, map}
+use mathlib.Core.List.{List, [], _∷_, _++_, map}
 use Prim.Native.Nat.{ℕ, zero, suc}
 use lib.ListN.{length, getD, set, replicate}
 use Rattle.laws.proofs.BoolLaws.{and-left, and-right, and-both}
@@ -58,6 +58,19 @@ module _ {A : Type 0} (p q : A → Bool) (h : (x : A) → p x ≡ true → q x �
   unfolding allOf
   all-weaker [] e = refl
   all-weaker (x ∷ xs) e = all-more q x xs (h x (all-first p x xs e)) (all-weaker xs (all-rest p x xs e))
+
+module _ {A : Type 0} (p q r : A → Bool) (h : (x : A) → p x ≡ true → q x ≡ true → r x ≡ true) where
+  -- a test that two others imply
+  pub all-from-both : (l : List A) → allOf p l ≡ true → allOf q l ≡ true → allOf r l ≡ true
+  unfolding allOf
+  all-from-both [] e d = refl
+  all-from-both (x ∷ xs) e d =
+      all-more r x xs (h x (all-first p x xs e) (all-first q x xs d)) (all-from-both xs (all-rest p x xs e) (all-rest q x xs d))
+
+-- two lists that pass, one after the other
+pub all-append : {A : Type 0} (p : A → Bool) (xs ys : List A) → allOf p xs ≡ true → allOf p ys ≡ true → allOf p (xs ++ ys) ≡ true
+all-append p [] ys e d = d
+all-append p (x ∷ xs) ys e d = all-more p x (xs ++ ys) (all-first p x xs e) (all-append p xs ys (all-rest p x xs e) d)
 
 module _ {A : Type 0} (r : A → A → Bool) where
   pub pairs-first : (x : A) (xs : List A) → pairwise r (x ∷ xs) ≡ true → allOf (r x) xs ≡ true

@@ -119,10 +119,21 @@ offers (e ∷ es) = offeredBy (e .call) (e .result) ++ offers es
 abbrev pub trackOffered : List ℕ → ℕ → ℕ
 trackOffered tracks n = getD tracks (n - 1) 0
 
+-- the sum of a number for each element
+unfoldable pub total : {A : Type 0} → (A → ℕ) → List A → ℕ
+total w [] = 0
+total w (x ∷ xs) = w x + total w xs
+
 -- how many elements pass
 unfoldable pub count : {A : Type 0} → (A → Bool) → List A → ℕ
-count p [] = 0
-count p (x ∷ xs) = cond (p x) 1 0 + count p xs
+count p = total (λ x. cond (p x) 1 0)
+
+-- how often a number is found: on stored frames, and on the lines handed out
+unfoldable pub foundStored : ℕ → Buffer → ℕ
+foundStored k b = count (λ (f : Frame). eqb k (f .number)) (b .frames)
+
+unfoldable pub foundTold : ℕ → List Entry → ℕ
+foundTold k es = count (λ (l : Line). eqb k (l .number)) (handedOut es)
 
 -- Offered on a track: the run's appends not refused that name it.
 unfoldable pub offeredOn : ℕ → List Entry → ℕ

@@ -62,12 +62,12 @@ offsetSet x b =
     (done (cond (isSequence (b .mode)) (withGroup c (record { begun = true; start = microsOf x; end = b .group .end })) c))
 
 -- the window end in microseconds
+abbrev pub boundAt : WindowEnd → ℤ → Bound
+boundAt Unbounded limit = unbounded
+boundAt (At x) limit = at limit
+
 abbrev pub windowEnd : Settings → Bound
 windowEnd s = boundAt (s .end) (s .limit)
-  where
-    boundAt : WindowEnd → ℤ → Bound
-    boundAt Unbounded limit = unbounded
-    boundAt (At x) limit = at limit
 
 -- Window start: refusal 6 if it is under 0 or not below the end.
 unfoldable pub windowStartSet : Float → Buffer → Result Buffer
@@ -78,19 +78,13 @@ windowStartSet x b =
     (done (withSettings b (record { offset = s .offset; start = given x; end = s .end; limit = s .limit }))))
 
 -- Plus infinity sets the end unbounded, its double and microseconds unset.
-abbrev pub endGiven : Float → WindowEnd
-endGiven x = endAt (boundOf x)
-  where
-    endAt : Bound → WindowEnd
-    endAt unbounded = Unbounded
-    endAt (at z) = At x
+abbrev pub endAt : Float → Bound → WindowEnd
+endAt x unbounded = Unbounded
+endAt x (at z) = At x
 
-abbrev pub limitGiven : Float → ℤ
-limitGiven x = limitAt (boundOf x)
-  where
-    limitAt : Bound → ℤ
-    limitAt unbounded = pos 0
-    limitAt (at z) = z
+abbrev pub limitAt : Bound → ℤ
+limitAt unbounded = pos 0
+limitAt (at z) = z
 
 -- Window end: refusal 6 if it is not above the start.
 unfoldable pub windowEndSet : Float → Buffer → Result Buffer
@@ -98,7 +92,7 @@ windowEndSet x b =
     let s = b .settings in
     refuseIf (not (convertibleEnd x)) Seconds
     (refuseIf (not (beforeBound (s .start .micros) (boundOf x))) Order
-    (done (withSettings b (record { offset = s .offset; start = s .start; end = endGiven x; limit = limitGiven x }))))
+    (done (withSettings b (record { offset = s .offset; start = s .start; end = endAt x (boundOf x); limit = limitAt (boundOf x) }))))
 
 -- ---- reading the settings: refused by 1 alone
 
