@@ -5,27 +5,36 @@ use mathlib.Core.Path.{_≡_, refl, sym, ap, ap₂, _∙_}
 use mathlib.Core.Bool.{Bool, true, false, cond, _&&_}
 use mathlib.Core.List.{List, [], _∷_, _++_, append-assoc}
 use Prim.Native.Nat.{ℕ, zero, suc, _+_, _-_, _≤_, _<_}
-use native.Mathlib.Nat.{add-zero, zero-add}
-use native.Mathlib.Numerals.{add-one}
+use native.Mathlib.Nat.{zero-add}
 use native.Mathlib.Omega.{arith}
 use lib.Dec.{leb, ltb, eqb}
 use lib.ListN.{length, length-append}
 use lib.Seq.{getD-at}
-use borrow.Author.Tests.{ltb-true, ltb-false, leb-true, leb-false, eqb-true, eqb-false, lt-ltb, le-ltb, le-leb, lt-leb, ne-eqb}
+use borrow.Author.Tests.{leb-true, leb-false, eqb-true, eqb-false, lt-ltb, le-ltb, le-leb, lt-leb}
 use Rattle.laws.proofs.BoolLaws.{split, and-left, and-right}
 use Rattle.buffer_state.specs.declared.Frame.{Frame}
 use Rattle.buffer_state.specs.Buffer.{Buffer, fresh}
-use Rattle.buffer_state.specs.Refusals.{Result, done}
+use Rattle.buffer_state.specs.Refusals.{done}
 use Rattle.buffer_state.specs.Settings.{create}
 use Rattle.buffer_state.specs.Store.{Line}
-use Rattle.buffer_state.specs.Run.{Call, Entry, run, lastOf, handedOut, offers, trackOffered, total, count, foundStored, foundTold, offeredOn, storedOn, toldOn, droppedOn, removedOn}
+use Rattle.buffer_state.specs.Run.{Call, replyTo, linesIn, offeredBy, run, lastOf, handedOut, offers, trackOffered, total, count, foundStored, foundTold, offeredOn, storedOn, toldOn, droppedOn, removedOn}
 use Rattle.buffer_state.specs.WellFormed.{allOf}
 use Rattle.buffer_laws.proofs.TestLaws.{all-first, all-rest, all-none}
-use Rattle.buffer_laws.proofs.StoreLaws.{frameWeight, lineWeight}
+use Rattle.buffer_laws.proofs.StoreLaws.{frameWeight}
 use Rattle.buffer_laws.proofs.GoodLaws.{Good}
 use Rattle.buffer_laws.proofs.AppendLaws.{knownCause}
-use Rattle.buffer_laws.proofs.SettingLaws.{IfDone, created-good}
-use Rattle.buffer_laws.proofs.RunLaws.{numbersAfter, onOffered, Lawful, run-lawful}
+use Rattle.buffer_laws.proofs.SettingLaws.{created-good}
+use Rattle.buffer_laws.proofs.RunLaws.{numbersAfter, onOffered, reply-lawful, run-lawful}
+
+-- ---- conservation, in numbers
+
+-- For each call: the numbers stored after it and on its lines are, each counted as often, those stored before it and those that it
+-- gave, which is the next one for an append that is not refused and none for any other.
+pub numbers-kept : (c : Call) (b : Buffer) (k : ℕ)
+    → foundStored k (replyTo c b .after) + count (λ (l : Line). eqb k (l .number)) (linesIn (replyTo c b .result))
+    ≡ foundStored k b + count (eqb k) (numbersAfter (b .last) (length (offeredBy c (replyTo c b .result))))
+unfolding foundStored count
+numbers-kept c b k = reply-lawful c b .weight (λ (n : ℕ). cond (eqb k n) 1 0)
 
 -- ---- found exactly once
 

@@ -1,16 +1,16 @@
 -- An append that is not refused keeps a good buffer good, and every number that it finds stored, and the next, it leaves stored or
 -- tells on one line: step by step, part by part.
 use mathlib.Core.Path.{_≡_, refl, ap, ap₂, _∙_}
-use mathlib.Core.Bool.{Bool, true, false, cond, not, _&&_, _||_}
-use mathlib.Core.List.{List, [], _∷_, map}
-use Prim.Native.Nat.{ℕ, suc, _+_, _-_, _≤_, _<_}
+use mathlib.Core.Bool.{Bool, true, false, cond, not, _&&_}
+use mathlib.Core.List.{List, [], _∷_}
+use Prim.Native.Nat.{ℕ, _+_, _-_, _≤_, _<_}
 use native.Mathlib.Omega.{arith}
-use lib.Dec.{leb, ltb, eqb}
-use lib.IntN.{ℤ, pos, negℤ, _+ℤ_, _-ℤ_}
-use lib.ListN.{length, getD, set, length-map, length-set}
+use lib.Dec.{leb, eqb}
+use lib.IntN.{ℤ, pos}
+use lib.ListN.{length, set, length-map, length-set}
 use lib.Signed.{ltZ, leZ, _≤ℤ_}
-use borrow.Author.Tests.{leb-true, le-leb, ltb-false, eqb-false, not-false}
-use Rattle.laws.proofs.BoolLaws.{clash, split, by-test, and-left, and-right, and-both, or-right, or-none-left, or-none-right}
+use borrow.Author.Tests.{eqb-false, not-true, not-false}
+use Rattle.laws.proofs.BoolLaws.{by-test, and-left, and-right, and-both, or-right, or-none-left, or-none-right}
 use Rattle.laws.proofs.IntLaws.{test-le, le-test, test-ge, le-le}
 use Rattle.seconds.specs.Seconds.{secondsOf, sameInt}
 use Rattle.seconds.proofs.SecondsLaws.{double-same}
@@ -18,16 +18,16 @@ use Rattle.buffer_state.specs.declared.Frame.{Frame}
 use Rattle.buffer_state.specs.declared.Offered.{Offered}
 use Rattle.buffer_state.specs.declared.Track.{Track}
 use Rattle.buffer_state.specs.declared.Group.{Group}
-use Rattle.buffer_state.specs.Buffer.{Buffer, hasTrack, trackOf, withNeed, withTrack, needForAll, restartAll, restarted, isSequence, startAtEnd, withEnd}
+use Rattle.buffer_state.specs.Buffer.{Buffer, zeroTrack, trackOf, withNeed, restarted, isSequence}
 use Rattle.buffer_state.specs.Limits.{resultTime, goodDuration, offeredTime, places, lastNumber, knownKind}
-use Rattle.buffer_state.specs.Refusals.{Result, done, refused}
-use Rattle.buffer_state.specs.Store.{kept, insertSorted, Line}
+use Rattle.buffer_state.specs.Store.{kept, Line}
 use Rattle.buffer_state.specs.Run.{total}
-use Rattle.buffer_state.specs.Append.{Outcome, stepOne, stepTwo, Pass, passOf, endOffered, fits, regrouped, breaks, secondPass, lastPass, leavesLimits, needing, beforeWindow, pastWindow, lacksRandomAccess, dropped, overlapMarks, overlapped, followed, storedAs, nextNumber, raised, stepNine, stored, settled, appended, offerable, append}
+use Rattle.buffer_state.specs.Append.{Outcome, stepOne, stepTwo, Pass, passOf, endOffered, fits, regrouped, breaks, secondPass, lastPass, leavesLimits, needing, beforeWindow, pastWindow, lacksRandomAccess, dropped, overlapMarks, overlapped, followed, storedAs, nextNumber, raised, stepNine, stored, settled, appended, offerable}
 use Rattle.buffer_state.specs.WellFormed.{allOf, goodTrack, goodOffset, converts, goodStart, goodGroup}
+use Rattle.buffer_laws.proofs.TestLaws.{all-none, all-more, all-getD, all-map}
 use Rattle.buffer_laws.proofs.OrderLaws.{insert-all, insert-total}
 use Rattle.buffer_laws.proofs.StoreLaws.{frameWeight, lineWeight, left-all, left-and-told, told-cause}
-use Rattle.buffer_laws.proofs.GoodLaws.{need-good, restarted-good, track-good, tracks-map, tracks-set, GoodFrame, facts-frame, GoodFrames, frames-later, frames-left, frames-more, group-end, group-start, starting-good, moved-good, GoodSettings, Good}
+use Rattle.buffer_laws.proofs.GoodLaws.{need-good, restarted-good, track-good, tracks-map, tracks-set, facts-frame, frames-later, frames-left, frames-more, group-end, group-start, starting-good, moved-good, Good}
 
 -- ---- steps 1 and 2
 
@@ -133,6 +133,36 @@ second-from b f =
 pub last-from : (b : Buffer) (f : Offered) → FromPass b f (lastPass b f)
 unfolding lastPass
 last-from b f = by-test (FromPass b f) (breaks (passOf b f)) (λ _. second-from b f) (λ _. first-from b f)
+
+-- the three are unset on every track
+abbrev Unset : Buffer → Type 0
+Unset b = allOf (λ (t : Track). not (t .known)) (b .tracks) ≡ true
+
+regrouped-unset : (b : Buffer) (z : ℤ) → Unset (regrouped b z)
+unfolding regrouped
+regrouped-unset b z = all-map (λ (t : Track). true) (λ (t : Track). not (t .known)) restarted (λ t _. refl) (b .tracks) (every (b .tracks))
+  where
+    every : (ts : List Track) → allOf (λ (t : Track). true) ts ≡ true
+    every [] = all-none (λ (t : Track). true)
+    every (t ∷ ts) = all-more (λ (t : Track). true) t ts refl (every ts)
+
+step-one-unset : (b : Buffer) (f : Offered) → Unset b → Unset (stepOne b f)
+unfolding stepOne
+step-one-unset b f h =
+    by-test Unset (isSequence (b .mode) && b .group .begun)
+    (λ _. all-map (λ (t : Track). not (t .known)) (λ (t : Track). not (t .known)) (withNeed true) (λ t k. k) (b .tracks) h)
+    (λ _. h)
+
+-- Step 3 begins again at most once: the second pass finds last decode time unset.
+pub no-third-pass : (b : Buffer) (f : Offered) → breaks (secondPass b f) ≡ false
+unfolding breaks secondPass passOf stepTwo
+no-third-pass b f =
+    let p = passOf b f in
+    let c = regrouped (p .buffer) (p .frame .pts) in
+    let unset = step-one-unset c f (regrouped-unset (p .buffer) (p .frame .pts)) in
+    let none : trackOf (stepOne c f) (f .track) .known ≡ false =
+    not-true _ (all-getD (λ (t : Track). not (t .known)) (stepOne c f .tracks) (f .track - 1) zeroTrack refl unset) in
+    rw none
 
 record GoodPass (p : Pass) : Type 0 where
   buffer : Good (p .buffer)

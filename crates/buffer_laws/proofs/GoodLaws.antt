@@ -1,16 +1,16 @@
 -- The parts of a good buffer, each as a fact, and what keeps each part good: tracks changed one by one or all alike, frames taken
 -- out or stored, a group moved.
-use mathlib.Core.Path.{_≡_, refl, sym, ap, _∙_}
-use mathlib.Core.Bool.{Bool, true, false, cond, not, _&&_}
-use mathlib.Core.List.{List, [], _∷_, map}
-use Prim.Native.Nat.{ℕ, suc, _+_, _≤_, _<_}
+use mathlib.Core.Path.{_≡_, refl, sym}
+use mathlib.Core.Bool.{Bool, true, not}
+use mathlib.Core.List.{List, map}
+use Prim.Native.Nat.{ℕ, _+_, _≤_}
 use native.Mathlib.Omega.{arith}
 use lib.Dec.{leb, eqb}
 use lib.IntN.{ℤ, pos}
 use lib.ListN.{length, getD, set, length-map, length-set}
 use lib.Signed.{leZ}
 use borrow.Author.Tests.{leb-true, le-leb, ne-eqb, eqb-false, not-true}
-use Rattle.laws.proofs.BoolLaws.{and-left, and-right, and-both, by-test}
+use Rattle.laws.proofs.BoolLaws.{and-left, and-right, and-both}
 use Rattle.seconds.specs.Seconds.{sameInt}
 use Rattle.buffer_state.specs.declared.Frame.{Frame}
 use Rattle.buffer_state.specs.declared.Track.{Track}
@@ -19,10 +19,10 @@ use Rattle.buffer_state.specs.declared.Mode.{Mode}
 use Rattle.buffer_state.specs.declared.Settings.{Settings}
 use Rattle.buffer_state.specs.Buffer.{Buffer, withMode, withGroup, withSettings, endOf, zeroTrack, withNeed, restarted, startAtEnd, withEnd}
 use Rattle.buffer_state.specs.Limits.{resultTime, goodDuration, places, lastNumber, knownKind}
-use Rattle.buffer_state.specs.Store.{Marked, markWhere, walk, kept, insertSorted, before}
-use Rattle.buffer_state.specs.WellFormed.{allOf, pairwise, goodTrack, goodTracks, goodCount, goodFrame, goodFrames, distinctNumbers, sorted, goodGroup, goodSettings, goodOffset, goodStart, goodEnd, goodBuffer}
+use Rattle.buffer_state.specs.Store.{markWhere, walk, kept, insertSorted, before}
+use Rattle.buffer_state.specs.WellFormed.{allOf, goodTrack, goodTracks, goodCount, goodFrame, goodFrames, distinctNumbers, sorted, goodGroup, goodSettings, goodOffset, goodStart, goodEnd, goodBuffer}
 use Rattle.buffer_laws.proofs.TestLaws.{all-getD, all-set, all-map, all-weaker}
-use Rattle.buffer_laws.proofs.OrderLaws.{insert-all, insert-pairs, insert-sorted, insert-length}
+use Rattle.buffer_laws.proofs.OrderLaws.{insert-all, insert-pairs, insert-sorted}
 use Rattle.buffer_laws.proofs.StoreLaws.{left-all, left-pairs, left-length}
 
 -- ---- tracks

@@ -6,6 +6,7 @@ pub mod CommonLaws
 pub mod OrderLaws
 pub mod StoreLaws
 pub mod GoodLaws
+pub mod ReportLaws
 pub mod AppendLaws
 pub mod RemoveLaws
 pub mod SettingLaws

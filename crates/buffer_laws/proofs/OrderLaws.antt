@@ -1,12 +1,11 @@
 -- Store order: `before` is transitive, of two frames with different numbers one comes before the other, and inserting keeps a list
 -- sorted, keeps what every frame passes, and adds the frame's weight.
 use mathlib.Core.Path.{_≡_, refl, sym, ap, _∙_}
-use mathlib.Core.Bool.{Bool, true, false, cond, not}
+use mathlib.Core.Bool.{Bool, true, false, not}
 use mathlib.Core.List.{List, [], _∷_}
 use Prim.Native.Nat.{ℕ, suc, _+_, _<_, _≤_}
 use native.Mathlib.Omega.{arith}
-use lib.Dec.{ltb, eqb}
-use lib.IntN.{ℤ}
+use lib.Dec.{eqb}
 use lib.ListN.{length}
 use lib.Signed.{ltZ, _<ℤ_, _≤ℤ_}
 use borrow.Author.Tests.{ltb-true, ltb-false, eqb-true, eqb-false, lt-ltb, eq-eqb, ne-eqb, not-true}
@@ -16,7 +15,7 @@ use Rattle.buffer_state.specs.declared.Frame.{Frame}
 use Rattle.buffer_state.specs.Store.{before, insertSorted}
 use Rattle.buffer_state.specs.WellFormed.{allOf, pairwise, sorted}
 use Rattle.buffer_state.specs.Run.{total}
-use Rattle.buffer_laws.proofs.TestLaws.{all-first, all-rest, all-more, all-none, all-weaker, pairs-first, pairs-rest, pairs-more, pairs-none}
+use Rattle.buffer_laws.proofs.TestLaws.{all-first, all-rest, all-more, all-none, all-weaker, pairs-first, pairs-rest, pairs-more}
 
 -- ---- the order
 

@@ -1,8 +1,8 @@
 -- A removal keeps a good buffer good, and every number that it finds stored it leaves stored or tells on one line.
 use mathlib.Core.Path.{_≡_, refl}
-use mathlib.Core.Bool.{Bool, true, cond, _&&_}
+use mathlib.Core.Bool.{Bool, true, _&&_}
 use mathlib.Core.List.{List, [], _∷_}
-use Prim.Native.Nat.{ℕ, _+_}
+use Prim.Native.Nat.{ℕ}
 use native.Mathlib.Omega.{arith}
 use lib.Dec.{leb}
 use lib.IntN.{ℤ}
@@ -13,7 +13,7 @@ use Rattle.seconds.specs.Seconds.{Bound}
 use Rattle.buffer_state.specs.declared.Frame.{Frame}
 use Rattle.buffer_state.specs.Buffer.{Buffer, restarted}
 use Rattle.buffer_state.specs.Limits.{resultTime}
-use Rattle.buffer_state.specs.Store.{Marked, markWhere, walk, kept}
+use Rattle.buffer_state.specs.Store.{Marked}
 use Rattle.buffer_state.specs.Append.{regrouped}
 use Rattle.buffer_state.specs.Remove.{beforeBound, farEdge, removalMarks, endsTrack, afterLoss, removed}
 use Rattle.buffer_state.specs.Run.{total}

@@ -1,25 +1,23 @@
 -- Each call of a run keeps a good buffer good and accounts for every number; so does a whole run, by induction over its calls.
-use mathlib.Core.Path.{_≡_, refl, sym, ap, ap₂, _∙_}
-use mathlib.Core.Bool.{Bool, true, false, cond, not, _&&_, _||_}
+use mathlib.Core.Path.{_≡_, refl, sym, ap, _∙_}
+use mathlib.Core.Bool.{Bool, true, not, _||_}
 use mathlib.Core.List.{List, [], _∷_, _++_, append-nil, append-assoc}
-use Prim.Native.Nat.{ℕ, zero, suc, _+_, _-_, _≤_, _<_}
+use Prim.Native.Nat.{ℕ, zero, suc, _+_, _-_}
 use native.Mathlib.Nat.{add-zero, zero-add}
 use native.Mathlib.Omega.{arith}
 use lib.Dec.{leb, ltb, eqb}
 use lib.IntN.{ℤ, pos}
-use lib.Ieee.{Float}
-use lib.ListN.{length, getD, length-append, List·getD-append}
+use lib.ListN.{length, length-append, List·getD-append}
 use lib.Seq.{getD-at}
 use lib.Signed.{ltZ}
-use borrow.Author.Tests.{leb-true, ltb-false, eqb-true, eq-eqb, not-false}
+use borrow.Author.Tests.{leb-true, ltb-false, eq-eqb, not-false}
 use Rattle.laws.proofs.BoolLaws.{by-test, and-left, and-right}
 use Rattle.seconds.specs.Seconds.{Bound, convertible, convertibleEnd, microsOf, boundOf}
 use Rattle.buffer_state.specs.declared.Frame.{Frame}
 use Rattle.buffer_state.specs.declared.Offered.{Offered}
-use Rattle.buffer_state.specs.declared.Refusal.{Refusal}
 use Rattle.buffer_state.specs.declared.State.{State}
 use Rattle.buffer_state.specs.Buffer.{Buffer, hasTrack}
-use Rattle.buffer_state.specs.Layout.{stateOf, bufferOf, wellFormed, onState}
+use Rattle.buffer_state.specs.Layout.{stateOf, bufferOf, wellFormed}
 use Rattle.buffer_state.specs.Limits.{places, lastNumber}
 use Rattle.buffer_state.specs.Refusals.{Result, refused, done}
 use Rattle.buffer_state.specs.Store.{Line}
@@ -27,13 +25,13 @@ use Rattle.buffer_state.specs.Append.{Outcome, nextNumber, storedAs, offerable,
 use Rattle.buffer_state.specs.Remove.{beforeBound, removed, remove}
 use Rattle.buffer_state.specs.Ranges.{Range, trackRanges, commonRanges}
 use Rattle.buffer_state.specs.Settings.{create, aborted, modeSet, offsetSet, windowStartSet, windowEndSet}
-use Rattle.buffer_state.specs.Run.{Call, appendCall, removeCall, abortCall, modeCall, offsetCall, windowStartCall, windowEndCall, readCall, rangesCall, commonCall, Answer, ok, ranges, Reply, byOutcome, bySetting, byRanges, replyTo, Entry, run, lastOf, linesIn, handedOut, offeredBy, offers, trackOffered, total}
-use Rattle.buffer_state.specs.WellFormed.{allOf, goodFrame, goodBuffer}
+use Rattle.buffer_state.specs.Run.{Call, appendCall, removeCall, abortCall, modeCall, offsetCall, windowStartCall, windowEndCall, readCall, rangesCall, commonCall, Answer, ok, ranges, Reply, byOutcome, bySetting, byRanges, replyTo, run, lastOf, linesIn, handedOut, offeredBy, offers, trackOffered, total}
+use Rattle.buffer_state.specs.WellFormed.{allOf, goodFrame}
 use Rattle.buffer_laws.proofs.TestLaws.{all-none, all-from-both, all-append}
-use Rattle.buffer_laws.proofs.LayoutLaws.{buffer-back, good-well-formed, well-formed-good}
+use Rattle.buffer_laws.proofs.LayoutLaws.{good-well-formed, well-formed-good}
 use Rattle.buffer_laws.proofs.StoreLaws.{frameWeight, lineWeight}
 use Rattle.buffer_laws.proofs.GoodLaws.{frame-facts, Good, good-facts, facts-good}
-use Rattle.buffer_laws.proofs.AppendLaws.{Untouched, Moved, Accepted, Accounts, knownCause, appended-good, appended-accounts, appended-all}
+use Rattle.buffer_laws.proofs.AppendLaws.{Untouched, Moved, Accepted, knownCause, appended-good, appended-accounts, appended-all}
 use Rattle.buffer_laws.proofs.RemoveLaws.{removed-good, removed-accounts, removed-all}
 use Rattle.buffer_laws.proofs.SettingLaws.{IfDone, created-good, Set, aborted-good, aborted-untouched, mode-good, mode-untouched, offset-set, window-start-set, window-end-set}
 
@@ -187,7 +185,7 @@ total-append w (x ∷ xs) ys = omega (arith, total-append w xs ys)
 
 numbers-more : (w : ℕ → ℕ) (n j k : ℕ) → total w (numbersAfter n (j + k)) ≡ total w (numbersAfter n j) + total w (numbersAfter (n + j) k)
 unfolding numbersAfter total
-numbers-more w n zero k = rw (zero-add, add-zero) (omega arith)
+numbers-more w n zero k = rw (zero-add k, add-zero n) (omega arith)
 numbers-more w n (suc j) k =
     let e : suc j + k ≡ suc (j + k) = omega arith in
     let d : n + 1 + j ≡ n + suc j = omega arith in

@@ -1,18 +1,18 @@
 -- Creation gives a good buffer; abort and the setters keep one good, and touch no frame and no number.
-use mathlib.Core.Path.{_≡_, refl, sym}
-use mathlib.Core.Bool.{Bool, true, false, cond, not, _&&_, _||_}
-use mathlib.Core.List.{List, [], _∷_, map}
-use Prim.Native.Nat.{ℕ, _+_, _≤_, _<_}
+use mathlib.Core.Path.{_≡_, refl}
+use mathlib.Core.Bool.{Bool, true, false, cond, not, _||_}
+use mathlib.Core.List.{List, [], map}
+use Prim.Native.Nat.{ℕ, _≤_}
 use native.Mathlib.Omega.{arith}
-use lib.Dec.{leb, ltb, eqb}
+use lib.Dec.{ltb, eqb}
 use lib.IntN.{ℤ, pos, negℤ}
 use lib.Ieee.{Float}
 use lib.ListN.{length, length-map}
 use lib.Signed.{ltZ, leZ, _≤ℤ_}
 use borrow.Author.Tests.{le-leb, ltb-false, eqb-false, not-false}
-use Rattle.laws.proofs.BoolLaws.{clash, by-test, and-left, and-right, and-both, or-left, or-none-left, or-none-right}
+use Rattle.laws.proofs.BoolLaws.{by-test, and-left, and-right, and-both, or-left, or-none-left, or-none-right}
 use Rattle.laws.proofs.IntLaws.{test-le, le-test, test-ge, le-le}
-use Rattle.seconds.specs.Seconds.{Bound, unbounded, at, convertible, convertibleEnd, isPlusInfinity, microsOf, boundOf, sameInt, zeroSeconds}
+use Rattle.seconds.specs.Seconds.{unbounded, at, convertible, convertibleEnd, isPlusInfinity, microsOf, boundOf, sameInt, zeroSeconds}
 use Rattle.seconds.proofs.SecondsLaws.{int-same, micros-limit, zero-converts}
 use Rattle.buffer_state.specs.declared.Group.{Group}
 use Rattle.buffer_state.specs.declared.Mode.{Mode}
@@ -21,13 +21,13 @@ use Rattle.buffer_state.specs.declared.Settings.{Settings}
 use Rattle.buffer_state.specs.declared.WindowEnd.{WindowEnd}
 use Rattle.buffer_state.specs.declared.WindowEnd.the-variants.{Unbounded, At}
 use Rattle.buffer_state.specs.Buffer.{Buffer, withMode, withSettings, restarted, freshTrack, fresh, isSequence, startAtEnd}
-use Rattle.buffer_state.specs.Limits.{resultTime, mostTracks, places, lastNumber, knownKind}
+use Rattle.buffer_state.specs.Limits.{resultTime, mostTracks, knownKind}
 use Rattle.buffer_state.specs.Refusals.{Result, refused, done}
 use Rattle.buffer_state.specs.Remove.{beforeBound}
 use Rattle.buffer_state.specs.Settings.{create, aborted, modeSet, given, offsetSet, boundAt, windowEnd, windowStartSet, endAt, limitAt, windowEndSet}
-use Rattle.buffer_state.specs.WellFormed.{allOf, pairwise, converts, zeroInt, goodTrack, goodTracks, goodCount, goodFrames, sorted, distinctNumbers, goodGroup, goodOffset, goodStart, goodEnd}
+use Rattle.buffer_state.specs.WellFormed.{allOf, converts, goodTrack, goodTracks, goodCount, sorted, distinctNumbers, goodGroup, goodOffset, goodStart, goodEnd}
 use Rattle.buffer_laws.proofs.TestLaws.{all-map, all-none, pairs-none}
-use Rattle.buffer_laws.proofs.GoodLaws.{restarted-good, tracks-map, GoodFrames, group-end, starting-good, GoodSettings, Good, group-changed, settings-changed, mode-changed}
+use Rattle.buffer_laws.proofs.GoodLaws.{restarted-good, tracks-map, group-end, starting-good, GoodSettings, Good, group-changed, settings-changed, mode-changed}
 use Rattle.buffer_laws.proofs.AppendLaws.{Untouched}
 
 -- ---- kept doubles

@@ -1,6 +1,6 @@
 -- Document 01, "Appending one frame": steps 1 to 9, then the call.
 use mathlib.Core.Bool.{Bool, true, false, cond, not, _&&_, _||_}
-use mathlib.Core.List.{List, [], _∷_, map}
+use mathlib.Core.List.{List, [], _∷_}
 use Prim.Native.Nat.{ℕ, _+_, _*_}
 use lib.Dec.{ltb, eqb}
 use lib.IntN.{ℤ, pos, _+ℤ_, _-ℤ_}
@@ -10,13 +10,11 @@ use Rattle.seconds.specs.Seconds.{secondsOf}
 use Rattle.buffer_state.specs.declared.Frame.{Frame}
 use Rattle.buffer_state.specs.declared.Offered.{Offered}
 use Rattle.buffer_state.specs.declared.Track.{Track}
-use Rattle.buffer_state.specs.declared.Group.{Group}
-use Rattle.buffer_state.specs.declared.Setting.{Setting}
 use Rattle.buffer_state.specs.declared.Settings.{Settings}
 use Rattle.buffer_state.specs.declared.WindowEnd.{WindowEnd}
 use Rattle.buffer_state.specs.declared.WindowEnd.the-variants.{Unbounded, At}
 use Rattle.buffer_state.specs.declared.Refusal.the-variants.{ShortFates, NoTrack, FrameLimits, ResultLimits, Full, LastNumber}
-use Rattle.buffer_state.specs.Buffer.{Buffer, withTracks, withFrames, withGroup, withLast, withTrack, trackOf, hasTrack, withNeed, needForAll, restartAll, isSequence, startAtEnd, withEnd}
+use Rattle.buffer_state.specs.Buffer.{Buffer, withTracks, withGroup, withLast, withTrack, trackOf, hasTrack, withNeed, needForAll, restartAll, isSequence, startAtEnd, withEnd}
 use Rattle.buffer_state.specs.Limits.{offeredTime, resultTime, goodDuration, places, lastNumber}
 use Rattle.buffer_state.specs.Refusals.{Result, done, refuseIf}
 use Rattle.buffer_state.specs.Store.{Marked, markWhere, walk, kept, Line, linesOf, insertSorted}

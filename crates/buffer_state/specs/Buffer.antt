@@ -1,7 +1,7 @@
 -- The buffer that the steps work on: a state's contents as plain lists, without the places past the counts.
 -- Layout.antt says how a State holds it.
 use mathlib.Core.Bool.{Bool, true, false}
-use mathlib.Core.List.{List, [], _∷_, map}
+use mathlib.Core.List.{List, [], map}
 use Prim.Native.Nat.{ℕ, _-_}
 use lib.IntN.{ℤ, pos, _+ℤ_}
 use lib.Dec.{leb}

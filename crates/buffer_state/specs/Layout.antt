@@ -1,11 +1,10 @@
 -- How a State holds a buffer: arrays with zeros past the counts. And the calls on a State, each refused by 1 first.
-use mathlib.Core.Bool.{Bool, true, false, not, _&&_}
-use mathlib.Core.List.{List, [], _∷_, _++_}
+use mathlib.Core.Bool.{Bool, false, not, _&&_}
+use mathlib.Core.List.{List, _++_}
 use Prim.Native.Nat.{ℕ, _-_}
 use lib.Dec.{leb, eqb}
 use lib.IntN.{pos}
 use lib.ListN.{length, take, drop, replicate}
-use Rattle.seconds.specs.Seconds.{sameInt}
 use Rattle.buffer_state.specs.declared.Frame.{Frame}
 use Rattle.buffer_state.specs.declared.Track.{Track}
 use Rattle.buffer_state.specs.declared.State.{State}

@@ -1,6 +1,6 @@
 -- Document 01, "Removing, aborting, setting" and "Times and numbers": creating, aborting, setting and reading the settings.
-use mathlib.Core.Bool.{Bool, true, false, cond, not, _&&_, _||_}
-use mathlib.Core.List.{List, [], _∷_}
+use mathlib.Core.Bool.{true, cond, not, _||_}
+use mathlib.Core.List.{List}
 use Prim.Native.Nat.{ℕ}
 use lib.Dec.{ltb, eqb}
 use lib.IntN.{ℤ, pos}
@@ -15,7 +15,7 @@ use Rattle.buffer_state.specs.declared.Settings.{Settings}
 use Rattle.buffer_state.specs.declared.WindowEnd.{WindowEnd}
 use Rattle.buffer_state.specs.declared.WindowEnd.the-variants.{Unbounded, At}
 use Rattle.buffer_state.specs.declared.Refusal.the-variants.{Seconds, Order, Kinds}
-use Rattle.buffer_state.specs.Buffer.{Buffer, withTracks, withMode, withGroup, withSettings, restartAll, isSequence, startAtEnd, fresh}
+use Rattle.buffer_state.specs.Buffer.{Buffer, withMode, withGroup, withSettings, restartAll, isSequence, startAtEnd, fresh}
 use Rattle.buffer_state.specs.Limits.{mostTracks, knownKind}
 use Rattle.buffer_state.specs.Refusals.{Result, done, refuseIf}
 use Rattle.buffer_state.specs.Remove.{beforeBound}

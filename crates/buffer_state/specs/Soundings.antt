@@ -6,13 +6,11 @@ use mathlib.Core.List.{List, [], _∷_, map}
 use Prim.Native.Nat.{ℕ}
 use lib.IntN.{ℤ, pos, negℤ}
 use lib.Ieee.{Float, binary64, ofBits, ofInt, div}
-use Rattle.seconds.specs.Seconds.{tieOf, roundOf, nearestOf, convertible, convertibleEnd, microsOf, secondsOf, boundOf, sameInt, zeroSeconds}
+use Rattle.seconds.specs.Seconds.{tieOf, roundOf, nearestOf, convertible, convertibleEnd, microsOf, secondsOf, boundOf, sameInt}
 use Rattle.buffer_state.specs.declared.Frame.{Frame}
 use Rattle.buffer_state.specs.declared.Track.{Track}
-use Rattle.buffer_state.specs.declared.Mode.{Mode}
 use Rattle.buffer_state.specs.declared.Mode.the-variants.{Segments, Sequence}
 use Rattle.buffer_state.specs.declared.Group.{Group}
-use Rattle.buffer_state.specs.declared.Settings.{Settings}
 use Rattle.buffer_state.specs.declared.WindowEnd.the-variants.{Unbounded, At}
 use Rattle.buffer_state.specs.Buffer.{Buffer, fresh, freshTrack, freshSettings}
 use Rattle.buffer_state.specs.Limits.{offeredTime, resultTime, goodDuration}

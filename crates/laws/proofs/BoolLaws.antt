@@ -1,6 +1,6 @@
 -- Tests: cases of a test, conjunctions taken apart and put together.
 use mathlib.Core.Path.{_≡_, refl, sym, _∙_}
-use mathlib.Core.Bool.{Bool, true, false, cond, not, _&&_, _||_, true≢false}
+use mathlib.Core.Bool.{Bool, true, false, cond, _&&_, _||_, true≢false}
 
 pub clash {ℓ} : {X : Type ℓ} → true ≡ false → X
 clash e = absurd (true≢false e)

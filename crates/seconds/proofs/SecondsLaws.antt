@@ -2,15 +2,15 @@
 use mathlib.Core.Path.{_≡_, refl, sym, ap, subst}
 use mathlib.Core.Bool.{Bool, true, false, Bool·beq, _&&_}
 use Prim.Native.Nat.{ℕ, zero, suc, _+_, _*_, _/_, _%_, _≤_, _<_, compare, Ordering, Ordering·lt, Ordering·eq, Ordering·gt}
-use native.Mathlib.Nat.{add-mul, one-mul, zero-mul, suc-mul, div-add-mod', mod-lt, lt-of-mul-lt-mul-right}
+use native.Mathlib.Nat.{suc-mul, div-add-mod', mod-lt, lt-of-mul-lt-mul-right}
 use native.Mathlib.Omega.{arith}
 use lib.Dec.{eqb, isLe, isEq}
 use lib.IntN.{ℤ, pos, negsuc, negℤ}
 use lib.Signed.{leZ}
 use lib.Ieee.{Float, nan, inf, fin, up, down}
 use lib.Ieee.Fits.{down-pos}
-use borrow.Author.Tests.{leb-true, leb-false, eqb-true, le-leb, eq-eqb}
-use Rattle.laws.proofs.BoolLaws.{clash, and-left, and-right, and-both}
+use borrow.Author.Tests.{leb-true, leb-false, eqb-true, eqb-false, le-leb, eq-eqb}
+use Rattle.laws.proofs.BoolLaws.{clash, split, and-left, and-right, and-both}
 use Rattle.seconds.specs.Seconds.{tieOf, roundOf, nearestOf, signed, convertible, microsOf, zeroSeconds, sameInt, sameDouble}
 
 -- ---- sameness
@@ -70,16 +70,22 @@ same-double (fin s m e) (fin t n d) h =
 abbrev Near : ℕ → ℕ → ℕ → Type 0
 Near q a b = (q * b * 2 ≤ a * 2 + b) × (a * 2 ≤ q * b * 2 + b)
 
--- from the middle, down and up are alike
-half-off : (q b r o : ℕ) → o ≤ 1 → r * 2 ≡ b → Near (q + o) (q * b + r) b
-half-off q b r zero h e = omega (arith, add-mul q 0 b, zero-mul b)
-half-off q b r (suc zero) h e = omega (arith, add-mul q 1 b, one-mul b)
-half-off q b r (suc (suc o)) h e = absurd (omega arith)
+-- whatever the tie rule, it picks one of two neighbours
+tie-neighbour : (s : Bool) (q : ℕ) → (q ≤ tieOf s q) × (tieOf s q ≤ q + 1)
+unfolding tieOf
+tie-neighbour s q = omega arith
+
+-- from the middle, either neighbour is as near
+half-off : (q b r t : ℕ) → q ≤ t → t ≤ q + 1 → r * 2 ≡ b → Near t (q * b + r) b
+half-off q b r t h k e =
+    split (eqb t q)
+    (λ d. let same : t ≡ q = eqb-true t q d in rw same (omega arith))
+    (λ d. let next : t ≡ suc q = omega (arith, eqb-false t q d) in rw next (omega (arith, suc-mul q b)))
 
 round-near : (s : Bool) (q b r : ℕ) (o : Ordering) → r < b → compare (r * 2) b ≡ o → Near (roundOf s q o) (q * b + r) b
-unfolding roundOf tieOf
+unfolding roundOf
 round-near s q b r Ordering·lt h e = omega (arith, leb-true (r * 2) b (ap isLe e))
-round-near s q b r Ordering·eq h e = half-off q b r (q % 2) (omega arith) (eqb-true (r * 2) b (ap isEq e))
+round-near s q b r Ordering·eq h e = let t = tie-neighbour s q in half-off q b r (tieOf s q) (t .0) (t .1) (eqb-true (r * 2) b (ap isEq e))
 round-near s q b r Ordering·gt h e = omega (arith, suc-mul q b, leb-false (r * 2) b (ap isLe e))
 
 -- the rounding is never further than half a unit from a / b
