@@ -1,1 +1,4 @@
 pub mod SecondsLaws
+pub mod ProductLaws
+pub mod DoubleLaws
+pub mod AnswerLaws

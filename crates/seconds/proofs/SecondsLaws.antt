@@ -1,16 +1,18 @@
--- What the tests of sameness and the rounding to microseconds are worth. The rounding errs by at most half a unit; its other bounds follow.
-use mathlib.Core.Path.{_≡_, refl, sym, ap, subst}
-use mathlib.Core.Bool.{Bool, true, false, Bool·beq, _&&_}
+-- What the tests of sameness and the rounding to microseconds are worth. The rounding errs by at most half a unit; what else is said of it follows.
+-- Only tie-between and tie-even look into the tie rule.
+use mathlib.Core.Path.{_≡_, refl, sym, ap, ap₂, _∙_, subst}
+use mathlib.Core.Bool.{Bool, true, false, cond, Bool·beq, _&&_}
 use Prim.Native.Nat.{ℕ, zero, suc, _+_, _*_, _/_, _%_, _≤_, _<_, compare, Ordering, Ordering·lt, Ordering·eq, Ordering·gt}
-use native.Mathlib.Nat.{suc-mul, div-add-mod', mod-lt, lt-of-mul-lt-mul-right}
+use native.Mathlib.Nat.{add-mul, suc-mul, mul-comm, mul-assoc, mul-right-comm, mul-le-mul-right, mul-lt-mul-of-pos-right, le-of-mul-le-mul-right, lt-of-mul-lt-mul-right, eq-of-mul-eq-mul-right, div-add-mod', mod-lt}
 use native.Mathlib.Omega.{arith}
-use lib.Dec.{eqb, isLe, isEq}
+use lib.Arith.{digits-div, digits-mod}
+use lib.Dec.{leb, eqb, isLe, isEq}
 use lib.IntN.{ℤ, pos, negsuc, negℤ}
 use lib.Signed.{leZ}
 use lib.Ieee.{Float, nan, inf, fin, up, down}
 use lib.Ieee.Fits.{down-pos}
-use borrow.Author.Tests.{leb-true, leb-false, eqb-true, eqb-false, le-leb, eq-eqb}
-use Rattle.laws.proofs.BoolLaws.{clash, split, and-left, and-right, and-both}
+use borrow.Author.Tests.{leb-true, leb-false, eqb-true, le-leb, eq-eqb}
+use Rattle.laws.proofs.BoolLaws.{clash, and-left, and-right, and-both, same-test}
 use Rattle.seconds.specs.Seconds.{tieOf, roundOf, nearestOf, signed, convertible, microsOf, zeroSeconds, sameInt, sameDouble}
 
 -- ---- sameness
@@ -70,22 +72,16 @@ same-double (fin s m e) (fin t n d) h =
 abbrev Near : ℕ → ℕ → ℕ → Type 0
 Near q a b = (q * b * 2 ≤ a * 2 + b) × (a * 2 ≤ q * b * 2 + b)
 
--- whatever the tie rule, it picks one of two neighbours
-tie-neighbour : (s : Bool) (q : ℕ) → (q ≤ tieOf s q) × (tieOf s q ≤ q + 1)
+-- the tie rule picks q or the next number up
+tie-between : (s : Bool) (q : ℕ) → (q ≤ tieOf s q) × (tieOf s q ≤ suc q)
 unfolding tieOf
-tie-neighbour s q = omega arith
-
--- from the middle, either neighbour is as near
-half-off : (q b r t : ℕ) → q ≤ t → t ≤ q + 1 → r * 2 ≡ b → Near t (q * b + r) b
-half-off q b r t h k e =
-    split (eqb t q)
-    (λ d. let same : t ≡ q = eqb-true t q d in rw same (omega arith))
-    (λ d. let next : t ≡ suc q = omega (arith, eqb-false t q d) in rw next (omega (arith, suc-mul q b)))
+tie-between s q = omega arith
 
 round-near : (s : Bool) (q b r : ℕ) (o : Ordering) → r < b → compare (r * 2) b ≡ o → Near (roundOf s q o) (q * b + r) b
 unfolding roundOf
 round-near s q b r Ordering·lt h e = omega (arith, leb-true (r * 2) b (ap isLe e))
-round-near s q b r Ordering·eq h e = let t = tie-neighbour s q in half-off q b r (tieOf s q) (t .0) (t .1) (eqb-true (r * 2) b (ap isEq e))
+round-near s q b r Ordering·eq h e =
+    omega (arith, eqb-true (r * 2) b (ap isEq e), mul-le-mul-right b (tie-between s q .0), mul-le-mul-right b (tie-between s q .1), suc-mul q b)
 round-near s q b r Ordering·gt h e = omega (arith, suc-mul q b, leb-false (r * 2) b (ap isLe e))
 
 -- the rounding is never further than half a unit from a / b
@@ -93,19 +89,8 @@ pub nearest-near : (s : Bool) (a b : ℕ) → 0 < b → (nearestOf s a b * b * 2
 unfolding nearestOf
 nearest-near s a b h = subst (λ (z : ℕ). Near (nearestOf s a b) z b) (div-add-mod' a b) (round-near s (a / b) b (a % b) _ (mod-lt a h) refl)
 
-tie-even : (s : Bool) (q : ℕ) (o : Ordering) → isEq o ≡ true → roundOf s q o % 2 ≡ 0
-unfolding roundOf tieOf
-tie-even s q Ordering·lt e = clash (sym e)
-tie-even s q Ordering·eq e = omega arith
-tie-even s q Ordering·gt e = clash (sym e)
-
--- a half goes to the even number
-pub nearest-even : (s : Bool) (a b : ℕ) → a % b * 2 ≡ b → nearestOf s a b % 2 ≡ 0
-unfolding nearestOf
-nearest-even s a b h = tie-even s (a / b) (compare (a % b * 2) b) (eq-eqb (a % b * 2) b h)
-
 -- multiples of b less than b apart
-at-most : (q n b : ℕ) → q * b < n * b + b → q ≤ n
+pub at-most : (q n b : ℕ) → q * b < n * b + b → q ≤ n
 at-most q n b h = omega (arith, lt-of-mul-lt-mul-right b (subst (λ (z : ℕ). q * b < z) (sym (suc-mul n b)) h))
 
 -- a number closer to a / b than half a unit is the rounding
@@ -114,6 +99,77 @@ nearest-only s a b n h over under =
     let r = nearestOf s a b in
     let near = nearest-near s a b h in
     omega (arith, at-most r n b (omega arith), at-most n r b (omega arith))
+
+-- a quotient and a remainder decide the rounding
+nearest-by : (s : Bool) (a b q r : ℕ) → a ≡ q * b + r → r < b → nearestOf s a b ≡ roundOf s q (compare (r * 2) b)
+unfolding nearestOf
+nearest-by s a b q r e h =
+    ap (λ (z : ℕ). nearestOf s z b) e ∙ ap₂ (λ (x y : ℕ). roundOf s x (compare (y * 2) b)) (digits-div q h) (digits-mod q h)
+
+-- less than half a unit left: down
+pub nearest-down : (s : Bool) (a b q r : ℕ) → a ≡ q * b + r → r * 2 < b → nearestOf s a b ≡ q
+nearest-down s a b q r e h = nearest-only s a b q (omega arith) (omega arith) (omega arith)
+
+-- more than half a unit left: up
+pub nearest-up : (s : Bool) (a b q r : ℕ) → a ≡ q * b + r → r < b → b < r * 2 → nearestOf s a b ≡ suc q
+nearest-up s a b q r e h k = nearest-only s a b (suc q) (omega arith) (omega (arith, suc-mul q b)) (omega (arith, suc-mul q b))
+
+round-half : (s : Bool) (q : ℕ) (o : Ordering) → isEq o ≡ true → roundOf s q o ≡ tieOf s q
+unfolding roundOf
+round-half s q Ordering·lt e = clash (sym e)
+round-half s q Ordering·eq e = refl
+round-half s q Ordering·gt e = clash (sym e)
+
+-- half a unit left: by the tie rule
+pub nearest-half : (s : Bool) (a b q r : ℕ) → a ≡ q * b + r → 0 < b → r * 2 ≡ b → nearestOf s a b ≡ tieOf s q
+nearest-half s a b q r e some h = nearest-by s a b q r e (omega arith) ∙ round-half s q (compare (r * 2) b) (eq-eqb (r * 2) b h)
+
+tie-even : (s : Bool) (q : ℕ) → tieOf s q % 2 ≡ 0
+unfolding tieOf
+tie-even s q = omega arith
+
+-- a half goes to the even number
+pub nearest-even : (s : Bool) (a b : ℕ) → a % b * 2 ≡ b → nearestOf s a b % 2 ≡ 0
+unfolding nearestOf
+nearest-even s a b h = ap (λ (z : ℕ). z % 2) (round-half s (a / b) (compare (a % b * 2) b) (eq-eqb (a % b * 2) b h)) ∙ tie-even s (a / b)
+
+-- an answer of `compare`, by its two tests
+abbrev orderOf : Bool → Bool → Ordering
+orderOf le eq = cond eq Ordering·eq (cond le Ordering·lt Ordering·gt)
+
+order-of : (o : Ordering) → orderOf (isLe o) (isEq o) ≡ o
+order-of Ordering·lt = refl
+order-of Ordering·eq = refl
+order-of Ordering·gt = refl
+
+compare-scale : (a b k : ℕ) → 0 < k → compare (a * k) (b * k) ≡ compare a b
+compare-scale a b k h =
+    let le : leb (a * k) (b * k) ≡ leb a b =
+    same-test (leb (a * k) (b * k)) (leb a b)
+    (λ e. le-leb a b (le-of-mul-le-mul-right (leb-true (a * k) (b * k) e) h))
+    (λ e. le-leb (a * k) (b * k) (mul-le-mul-right k (leb-true a b e))) in
+    let eq : eqb (a * k) (b * k) ≡ eqb a b =
+    same-test (eqb (a * k) (b * k)) (eqb a b)
+    (λ e. eq-eqb a b (eq-of-mul-eq-mul-right k h a b (eqb-true (a * k) (b * k) e)))
+    (λ e. eq-eqb (a * k) (b * k) (ap (λ (z : ℕ). z * k) (eqb-true a b e))) in
+    sym (order-of (compare (a * k) (b * k))) ∙ ap₂ orderOf le eq ∙ order-of (compare a b)
+
+-- a fraction that is not in its lowest terms
+nearest-scale : (s : Bool) (a b k : ℕ) → 0 < b → 0 < k → nearestOf s (a * k) (b * k) ≡ nearestOf s a b
+nearest-scale s a b k B K =
+    let q : ℕ = a / b in
+    let r : ℕ = a % b in
+    let parts : a ≡ q * b + r = sym (div-add-mod' a b) in
+    let scaled : a * k ≡ q * (b * k) + r * k = ap (λ (z : ℕ). z * k) parts ∙ add-mul (q * b) r k ∙ ap (λ (z : ℕ). z + r * k) (mul-assoc q b k) in
+    let below : r < b = mod-lt a B in
+    nearest-by s (a * k) (b * k) q (r * k) scaled (mul-lt-mul-of-pos-right below K)
+    ∙ ap (roundOf s q) (ap (λ (z : ℕ). compare z (b * k)) (mul-right-comm r k 2) ∙ compare-scale (r * 2) b k K)
+    ∙ sym (nearest-by s a b q r parts below)
+
+-- equal fractions round alike
+pub nearest-same : (s : Bool) (a b c d : ℕ) → 0 < b → 0 < d → a * d ≡ c * b → nearestOf s a b ≡ nearestOf s c d
+nearest-same s a b c d B D e =
+    sym (nearest-scale s a b d B D) ∙ ap₂ (nearestOf s) e (mul-comm b d) ∙ nearest-scale s c d b D B
 
 -- ---- microseconds
 

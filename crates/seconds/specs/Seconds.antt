@@ -5,6 +5,10 @@ use mathlib.Core.Bool.{Bool, true, false, cond, _&&_, _||_, Bool·beq, not}
 use lib.Dec.{leb, eqb}
 use lib.IntN.{ℤ, pos, negsuc, negℤ}
 use lib.Ieee.{Float, nan, inf, fin, up, down, binary64, ofInt, div}
+use Rattle.seconds.specs.declared.Micros.{Micros}
+use Rattle.seconds.specs.declared.Micros.the-variants.{At, Refused}
+use Rattle.seconds.specs.declared.EndMicros.{EndMicros}
+use Rattle.seconds.specs.declared.EndMicros.the-variants as End
 
 -- The tie rule, alone: a magnitude half way between q and q + 1 goes to the even one of them.
 -- The sign s is an argument because another rule may need it.
@@ -37,6 +41,10 @@ microsOf nan = pos 0
 microsOf (inf s) = pos 0
 microsOf (fin s m e) = signed s (nearestOf s (m * up e * 1000000) (down e))
 
+-- the answer to a time in seconds: its microseconds, or a refusal
+abbrev pub microsAnswer : Float → Micros
+microsAnswer x = cond (convertible x) (At (microsOf x)) Refused
+
 -- the whole number z, exact as a double, divided once by 1,000,000 (which is 15625 * 2 ^ 6)
 unfoldable pub secondsOf : ℤ → Float
 secondsOf z = div binary64 (ofInt binary64 z) (fin false 15625 (pos 6))
@@ -57,6 +65,14 @@ pub data Bound : Type 0 where
 
 unfoldable pub boundOf : Float → Bound
 boundOf x = cond (isPlusInfinity x) unbounded (at (microsOf x))
+
+-- the answer to an end in seconds: its place, or a refusal
+abbrev pub endAnswer : Float → EndMicros
+endAnswer x = cond (convertibleEnd x) (endAt (boundOf x)) End.Refused
+  where
+    endAt : Bound → EndMicros
+    endAt unbounded = End.Unbounded
+    endAt (at z) = End.At z
 
 -- plus zero, as a double
 abbrev pub zeroSeconds : Float
