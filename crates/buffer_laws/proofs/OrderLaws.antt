@@ -1,7 +1,7 @@
 -- Store order: `before` is transitive, of two frames with different numbers one comes before the other, and inserting keeps a list
 -- sorted, keeps what every frame passes, and adds the frame's weight.
 use mathlib.Core.Path.{_≡_, refl, sym, ap, _∙_}
-use mathlib.Core.Bool.{Bool, true, false, not}
+use mathlib.Core.Bool.{Bool, true, false, not, _&&_}
 use mathlib.Core.List.{List, [], _∷_}
 use Prim.Native.Nat.{ℕ, suc, _+_, _<_, _≤_}
 use native.Mathlib.Omega.{arith}
@@ -9,13 +9,13 @@ use lib.Dec.{eqb}
 use lib.ListN.{length}
 use lib.Signed.{ltZ, _<ℤ_, _≤ℤ_}
 use borrow.Author.Tests.{ltb-true, ltb-false, eqb-true, eqb-false, lt-ltb, eq-eqb, ne-eqb, not-true}
-use Rattle.laws.proofs.BoolLaws.{clash, split, by-test}
+use Rattle.laws.proofs.BoolLaws.{clash, split, by-test, and-left, and-right, and-both, same-test}
 use Rattle.laws.proofs.IntLaws.{test-lt, lt-test, test-ge, ge-test, lt-lt, le-refl, le-antisym}
 use Rattle.buffer_state.specs.declared.Frame.{Frame}
 use Rattle.buffer_state.specs.Store.{before, insertSorted}
 use Rattle.buffer_state.specs.WellFormed.{allOf, pairwise, sorted}
 use Rattle.buffer_state.specs.Run.{total}
-use Rattle.buffer_laws.proofs.TestLaws.{all-first, all-rest, all-more, all-none, all-weaker, pairs-first, pairs-rest, pairs-more}
+use Rattle.buffer_laws.proofs.TestLaws.{all-first, all-rest, all-more, all-none, all-weaker, pairs-first, pairs-rest, pairs-more, pairs-none}
 
 -- ---- the order
 
@@ -72,6 +72,26 @@ before-total a b n =
     why-before b a (by-number (sym (eqb-true (a .track) (b .track) t)) (le-antisym (test-ge d) (test-ge g)) (omega (arith, eqb-false (a .number) (b .number) n))))))
     (λ t e. let h : b .track ≤ a .track = ltb-false (a .track) (b .track) (rw t at e) in
     why-before b a (by-track (omega (arith, eqb-false (a .track) (b .track) t))))
+
+-- ---- neighbours decide
+
+-- the first two, then the rest
+pub sorted-next : (f g : Frame) (gs : List Frame) → sorted (f ∷ g ∷ gs) ≡ (before f g && sorted (g ∷ gs))
+unfolding sorted
+sorted-next f g gs =
+    same-test _ _
+    (λ e. and-both (all-first (before f) g gs (pairs-first before f (g ∷ gs) e)) (pairs-rest before f (g ∷ gs) e))
+    (λ e.
+    let next : before f g ≡ true = and-left _ _ e in
+    let rest : pairwise before (g ∷ gs) ≡ true = and-right (before f g) _ e in
+    let later = all-weaker (before g) (before f) (λ h. before-trans f g h next) gs (pairs-first before g gs rest) in
+    pairs-more before f (g ∷ gs) (all-more (before f) g gs next later) rest)
+
+pub sorted-few : (fs : List Frame) → length fs ≤ 1 → sorted fs ≡ true
+unfolding sorted
+sorted-few [] h = pairs-none before
+sorted-few (f ∷ []) h = pairs-more before f [] (all-none (before f)) (pairs-none before)
+sorted-few (f ∷ g ∷ gs) h = absurd (omega arith)
 
 -- ---- insertion
 

@@ -1,10 +1,11 @@
 -- `allOf` and `pairwise` through `map`, `set`, `getD`, `replicate`, `++` and a change of the test, by induction on the list.
 use mathlib.Core.Path.{_≡_, refl}
-use mathlib.Core.Bool.{Bool, true}
+use mathlib.Core.Bool.{Bool, true, false}
 use mathlib.Core.List.{List, [], _∷_, _++_, map}
-use Prim.Native.Nat.{ℕ, zero, suc}
-use lib.ListN.{length, getD, set, replicate}
+use Prim.Native.Nat.{ℕ, zero, suc, _+_, _≤_, _<_}
+use lib.ListN.{length, take, drop, getD, set, replicate}
 use Rattle.laws.proofs.BoolLaws.{and-left, and-right, and-both}
+use Rattle.laws.proofs.ListLaws.{first-next, first-end}
 use Rattle.buffer_state.specs.WellFormed.{allOf, pairwise}
 
 module _ {A : Type 0} (p : A → Bool) where
@@ -44,6 +45,20 @@ module _ {A : Type 0} (p : A → Bool) where
       let head : x ≡ z = only x (all-first x xs h) in
       let rest : xs ≡ replicate (length xs) z = all-only z only xs (all-rest x xs h) in
       λ i. head i ∷ rest i
+
+-- a loop over the first n elements: what is left decides
+module _ {A : Type 0} (p : A → Bool) (l : List A) (n : ℕ) (k : n ≤ length l) (i : ℕ) (z : A) where
+  pub all-step : i < n → p (getD l i z) ≡ true → allOf p (drop i (take n l)) ≡ allOf p (drop (i + 1) (take n l))
+  unfolding allOf
+  all-step h e = rw (first-next l n k i z h, e)
+
+  pub all-stop : i < n → p (getD l i z) ≡ false → allOf p (drop i (take n l)) ≡ false
+  unfolding allOf
+  all-stop h e = rw (first-next l n k i z h, e)
+
+  pub all-end : n ≤ i → allOf p (drop i (take n l)) ≡ true
+  unfolding allOf
+  all-end h = rw (first-end l n k i h)
 
 module _ {A B : Type 0} (p : A → Bool) (q : B → Bool) (f : A → B) (h : (x : A) → p x ≡ true → q (f x) ≡ true) where
   -- what passes one test passes another once it is mapped

@@ -164,3 +164,16 @@ pub lt-add : (a : ℤ) (n : ℕ) → 1 ≤ n → a <ℤ (a +ℤ pos n)
 lt-add a n h =
     let k = suc (suc (mag a + n)) in
     test-lt (lift-lt k a (a +ℤ pos n) (omega (arith, lift-add k a (pos n) (omega arith))))
+
+-- ---- magnitudes, for what fits a word
+
+sub-mag : (a b : ℕ) (t : Bool) → mag (cond t (negsuc (suc b - suc a)) (pos (a - suc b))) ≤ a + b
+sub-mag a b true = omega arith
+sub-mag a b false = omega arith
+
+-- a sum is not larger than its parts, and one
+pub mag-add : (a b : ℤ) → mag (a +ℤ b) ≤ suc (mag a + mag b)
+mag-add (pos a) (pos b) = omega arith
+mag-add (pos a) (negsuc b) = omega (arith, sub-mag a b (ltb a (suc b)))
+mag-add (negsuc a) (pos b) = omega (arith, sub-mag b a (ltb b (suc a)))
+mag-add (negsuc a) (negsuc b) = omega arith

@@ -1,2 +1,4 @@
 pub mod BoolLaws
 pub mod IntLaws
+pub mod ListLaws
+pub mod WordLaws

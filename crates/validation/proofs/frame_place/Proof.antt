@@ -1,0 +1,21 @@
+-- By whether the place is in use.
+use mathlib.Core.Path.{_≡_}
+use mathlib.Core.Bool.{true, false}
+use borrow.Author.Needs.{needs}
+use Rattle.validation.proofs.frame_place.Statement.{statement}
+use Rattle.validation.proofs.frame_place.Tie as tie
+
+good-frame-requires : tie.Need-good-frame-requires
+good-frame-requires c κs = search needs
+
+returns : tie.Need-returns
+returns c = let used : c .before .before .args .used ≡ true = c .before .if1 .taken in rw used (c .good-frame .ensures)
+
+zero-frame-requires : tie.Need-zero-frame-requires
+zero-frame-requires c κs = search needs
+
+returns-2 : tie.Need-returns-2
+returns-2 c = let past : c .before .before .args .used ≡ false = c .before .if1 .left in rw past (c .zero-frame .ensures)
+
+pub frame-place-spec : {M : Type 1} → statement M
+frame-place-spec = tie.close (tie.spec good-frame-requires returns zero-frame-requires returns-2)

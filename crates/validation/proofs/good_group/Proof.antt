@@ -1,0 +1,49 @@
+-- The group end, then the group start where it is set.
+use mathlib.Core.Path.{_≡_, sym, _∙_}
+use mathlib.Core.Bool.{true, false}
+use borrow.Author.Needs.{needs}
+use lib.IntN.{pos}
+use borrow.Author.Tests.{not-true, not-false}
+use Rattle.laws.proofs.WordLaws.{told}
+use Rattle.seconds.specs.Seconds.{sameInt}
+use Rattle.buffer_state.specs.Limits.{resultTime}
+use Rattle.buffer_state.specs.WellFormed.{goodGroup}
+use Rattle.validation.proofs.good_group.Statement.{statement}
+use Rattle.validation.proofs.good_group.Tie as tie
+
+result-time-requires : tie.Need-result-time-requires
+result-time-requires c κs = search needs
+
+returns : tie.Need-returns
+unfolding goodGroup
+returns c =
+    let g = c .before .before .before .args .g in
+    let e : resultTime (g .end) ≡ false = sym (told (g .end) (search needs) resultTime (c .before .result-time .ensures)) ∙ not-true _ (c .if1 .taken) in
+    rw e
+
+result-time-requires-2 : tie.Need-result-time-requires-2
+result-time-requires-2 c κs = search needs
+
+returns-2 : tie.Need-returns-2
+unfolding goodGroup
+returns-2 c =
+    let b = c .before .before .before .before in
+    let g = b .before .before .args .g in
+    let e : resultTime (g .end) ≡ true = sym (told (g .end) (search needs) resultTime (b .result-time .ensures)) ∙ not-false _ (c .before .before .before .if1 .left) in
+    let begun : g .begun ≡ true = c .before .before .if2 .taken in
+    rw (e, begun) (told (g .start) (search needs) resultTime (c .result-time2 .ensures))
+
+same-int-requires : tie.Need-same-int-requires
+same-int-requires c κs = search needs
+
+returns-3 : tie.Need-returns-3
+unfolding goodGroup
+returns-3 c =
+    let b = c .before .before .before .before in
+    let g = b .before .before .args .g in
+    let e : resultTime (g .end) ≡ true = sym (told (g .end) (search needs) resultTime (b .result-time .ensures)) ∙ not-false _ (c .before .before .before .if1 .left) in
+    let unset : g .begun ≡ false = c .before .before .if2 .left in
+    rw (e, unset) (told (g .start) (search needs) (λ z. sameInt z (pos 0)) (c .same-int .ensures))
+
+pub good-group-spec : {M : Type 1} → statement M
+good-group-spec = tie.close (tie.spec result-time-requires returns result-time-requires-2 returns-2 same-int-requires returns-3)

@@ -1,0 +1,13 @@
+-- The places of an array: those in use pass one test, those past the count another.
+use mathlib.Core.Bool.{Bool, true, _&&_}
+use mathlib.Core.List.{List, [], _∷_}
+use Prim.Native.Nat.{ℕ, zero, suc}
+use Rattle.buffer_state.specs.declared.Frame.{Frame}
+
+unfoldable pub placed : {A : Type 0} → (A → Bool) → (A → Bool) → ℕ → List A → Bool
+placed used past n [] = true
+placed used past zero (x ∷ xs) = past x && placed used past zero xs
+placed used past (suc n) (x ∷ xs) = used x && placed used past n xs
+
+abbrev pub numberOf : Frame → ℕ
+numberOf f = f .number
