@@ -8,5 +8,6 @@ pub mod Remove
 pub mod Settings
 pub mod Ranges
 pub mod Layout
+pub mod Answers
 pub mod Run
 pub mod Soundings

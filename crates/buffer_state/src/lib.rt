@@ -87,3 +87,32 @@ pub enum Refusal {
     ShortRanges,
     Kinds,
 }
+
+// What creation, abort and the setters answer, and the state that they hand back: after a refusal the one that they were handed.
+pub enum Answer {
+    Done,
+    Refused(Refusal),
+}
+
+pub struct Changed {
+    pub answer: Answer,
+    pub state: State,
+}
+
+// What reading the settings answers: the doubles kept, bit for bit, and whether there is a window end.
+pub enum Read {
+    Bounded { offset: f64, start: f64, end: f64 },
+    Unbounded { offset: f64, start: f64 },
+    Refused(Refusal),
+}
+
+// What append and remove answer: how many fate lines they wrote, beside the state.
+pub enum Count {
+    Done(usize),
+    Refused(Refusal),
+}
+
+pub struct Counted {
+    pub answer: Count,
+    pub state: State,
+}

@@ -1,11 +1,11 @@
 -- Lists under a loop: the first n elements of an array, read or mapped one at a time.
-use mathlib.Core.Path.{_≡_, refl, sym, ap, ap₂, _∙_}
-use mathlib.Core.List.{List, [], _∷_, _++_, map}
-use Prim.Native.Nat.{ℕ, _+_, _≤_, _<_}
+use mathlib.Core.Path.{_≡_, sym, ap₂, _∙_}
+use mathlib.Core.List.{List, [], _∷_, _++_, map, map-append}
+use Prim.Native.Nat.{ℕ, suc, _+_, _≤_, _<_}
 use native.Mathlib.Numerals.{add-one}
 use native.Mathlib.Omega.{arith}
 use lib.ListN.{length, take, drop, getD, set, length-take, length-map, drop-of-length-le}
-use lib.Seq.{drop-cons, getD-take, take-suc, take-suc-set}
+use lib.Seq.{drop-cons, getD-take, getD-at, set-at, append-snoc, take-suc, take-suc-set}
 
 -- what owning a struct says of a field that is an array
 pub mapped-length : {A B : Type 0} (f : A → B) (l : List A) (n : ℕ) → length (map f l) ≡ n → length l ≡ n
@@ -24,13 +24,26 @@ module _ {A : Type 0} (l : List A) (n : ℕ) (k : n ≤ length l) where
   pub first-end : (i : ℕ) → n ≤ i → drop i (take n l) ≡ []
   first-end i h = drop-of-length-le (take n l) {i = i} (rw first-length h)
 
-pub map-append : {A B : Type 0} (f : A → B) (xs ys : List A) → map f (xs ++ ys) ≡ map f xs ++ map f ys
-map-append f [] ys = refl
-map-append {B = B} f (x ∷ xs) ys = ap (λ (l : List B). f x ∷ l) (map-append f xs ys)
-
 -- one more element is mapped from one array into another
 pub mapped-more : {A B : Type 0} (f : A → B) (l : List A) (out : List B) (i : ℕ) (z : A) (x : B) → i < length l → i < length out
     → take i out ≡ map f (take i l) → x ≡ f (getD l i z) → take (i + 1) (set out i x) ≡ map f (take (i + 1) l)
 mapped-more {B = B} f l out i z x h k e d =
     rw (add-one, take-suc-set out i x k, take-suc l i z h, map-append f (take i l) (getD l i z ∷ []))
     (ap₂ (λ (p : List B) (y : B). p ++ (y ∷ [])) e d)
+
+-- an array is mapped in place, from its front
+module _ {A : Type 0} (f : A → A) (l : List A) where
+  abbrev pub mappedTo : ℕ → List A
+  mappedTo i = map f (take i l) ++ drop i l
+
+  module _ (i : ℕ) (z : A) (h : i < length l) where
+    front : length (map f (take i l)) ≡ i
+    front = length-map (take i l) f ∙ (rw length-take (omega arith))
+
+    pub mapped-read : getD (mappedTo i) i z ≡ getD l i z
+    mapped-read = rw (drop-cons l i z h) (getD-at (map f (take i l)) (getD l i z) (drop (suc i) l) z i front)
+
+    pub mapped-next : set (mappedTo i) i (f (getD l i z)) ≡ mappedTo (i + 1)
+    mapped-next =
+        rw (add-one, take-suc l i z h, map-append f (take i l) (getD l i z ∷ []), append-snoc, drop-cons l i z h)
+        (set-at (map f (take i l)) (getD l i z) (drop (suc i) l) (f (getD l i z)) i front)

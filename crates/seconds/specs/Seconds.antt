@@ -67,12 +67,12 @@ unfoldable pub boundOf : Float → Bound
 boundOf x = cond (isPlusInfinity x) unbounded (at (microsOf x))
 
 -- the answer to an end in seconds: its place, or a refusal
+abbrev pub endPlace : Bound → EndMicros
+endPlace unbounded = End.Unbounded
+endPlace (at z) = End.At z
+
 abbrev pub endAnswer : Float → EndMicros
-endAnswer x = cond (convertibleEnd x) (endAt (boundOf x)) End.Refused
-  where
-    endAt : Bound → EndMicros
-    endAt unbounded = End.Unbounded
-    endAt (at z) = End.At z
+endAnswer x = cond (convertibleEnd x) (endPlace (boundOf x)) End.Refused
 
 -- plus zero, as a double
 abbrev pub zeroSeconds : Float

@@ -10,7 +10,6 @@ ghost use lib.ListN.{take};
 ghost use Rattle.seconds.specs.Seconds.{sameInt};
 ghost use Rattle.buffer_state.specs.Limits.{resultTime, goodDuration};
 ghost use Rattle.buffer_state.specs.Buffer.{endOf};
-ghost use Rattle.buffer_state.specs.Store.{before};
 ghost use Rattle.buffer_state.specs.WellFormed.{goodTrack, goodFrame, sorted, distinctNumbers, goodGroup, converts, goodOffset, goodStart, goodEnd, goodSettings};
 ghost use Rattle.buffer_state.specs.Layout.{isZeroFrame, isZeroTrack, wellFormed};
 ghost use Rattle.sorting.specs.Sorting.{noNeighbours};
@@ -90,28 +89,6 @@ fn good_frame(f: Frame, tracks: usize, last: u32) -> bool
         & (f.number <= last);
     let times = at_most(0, f.pts) & good_span(f) & result_time(f.dts);
     numbers & times & good_duration(f.duration)
-}
-
-fn earlier(a: Frame, b: Frame) -> bool
-    ensures { λ r. ⌜ r ≡ ltZ (a .dts) (b .dts) ⌝ }
-{
-    a.dts < b.dts
-}
-
-// Store order: by track, then decode time, then number.
-pub fn frame_before(a: Frame, b: Frame) -> bool
-    ensures { λ r. ⌜ r ≡ before a b ⌝ }
-{
-    if a.track != b.track {
-        return a.track < b.track;
-    }
-    if earlier(a, b) {
-        return true;
-    }
-    if earlier(b, a) {
-        return false;
-    }
-    a.number < b.number
 }
 
 fn zero_frame(f: Frame) -> bool
@@ -282,7 +259,7 @@ fn frames_sorted(s: State) -> bool
     while i + 1 < n {
         let f = s.frames[i];
         let g = s.frames[i + 1];
-        if !frame_before(f, g) {
+        if !store::frame_before(f, g) {
             return false;
         }
         i += 1;

@@ -1,9 +1,9 @@
--- Each way out, by the tests that lead there.
+-- `store::frame_before` meets its contract: it asks the definition's tests in the definition's order.
 use borrow.Author.Needs.{needs}
 use borrow.Author.Tests.{eq-eqb, ne-eqb}
 use Rattle.buffer_state.specs.Store.{before}
-use Rattle.validation.proofs.frame_before.Statement.{statement}
-use Rattle.validation.proofs.frame_before.Tie as tie
+use Rattle.store.proofs.frame_before.Statement.{statement}
+use Rattle.store.proofs.frame_before.Tie as tie
 
 returns : tie.Need-returns
 unfolding before
@@ -22,15 +22,15 @@ earlier-requires-2 c κs = search needs
 returns-3 : tie.Need-returns-3
 unfolding before
 returns-3 c =
-    let b = c .before .before .before in
-    simp (eq-eqb _ _ (b .before .if1 .left), ← b .earlier .ensures, c .before .before .if2 .left, ← c .before .earlier2 .ensures, c .if3 .taken)
+    simp
+    (eq-eqb _ _ (c .before .before .before .before .if1 .left), ← c .before .before .before .earlier .ensures, c .before .before .if2 .left, ← c .before .earlier2 .ensures, c .if3 .taken)
 
 returns-4 : tie.Need-returns-4
 unfolding before
 returns-4 c =
     let d = c .before .before in
-    let b = d .before .before .before in
-    simp (eq-eqb _ _ (b .before .if1 .left), ← b .earlier .ensures, d .before .before .if2 .left, ← d .before .earlier2 .ensures, d .if3 .left)
+    simp
+    (eq-eqb _ _ (d .before .before .before .before .if1 .left), ← d .before .before .before .earlier .ensures, d .before .before .if2 .left, ← d .before .earlier2 .ensures, d .if3 .left)
 
 pub frame-before-spec : {M : Type 1} → statement M
 frame-before-spec = tie.close (tie.spec returns earlier-requires returns-2 earlier-requires-2 returns-3 returns-4)

@@ -1,0 +1,80 @@
+-- Refused 1, or by what the conversion answered.
+use mathlib.Core.Path.{_≡_, sym, ap, _∙_}
+use mathlib.Core.Bool.{true}
+use borrow.Author.Tests.{not-true, not-false}
+use Rattle.laws.proofs.WordLaws.{told}
+use Rattle.seconds.specs.declared.Micros.the-variants.{At, Refused}
+use Rattle.buffer_state.specs.Answers.{windowStartAnswer}
+use Rattle.buffer_state.specs.Layout.{wellFormed}
+use Rattle.buffer_state.specs.Settings.{windowStartSet}
+use Rattle.settings.specs.Windows.{startAt, startBy}
+use Rattle.settings.proofs.AnswerLaws.{refusing, going-on, start-by}
+use borrow.Author.Needs.{needs}
+use Rattle.settings.proofs.set_window_start.Statement.{statement}
+use Rattle.settings.proofs.set_window_start.Tie as tie
+
+well-formed-requires : tie.Need-well-formed-requires
+well-formed-requires c κs = search needs
+
+refuse-requires : tie.Need-refuse-requires
+refuse-requires c κs = search needs
+
+returns : tie.Need-returns
+unfolding windowStartAnswer
+returns c =
+    let w = c .before .before in
+    c .refuse .ensures ∙ sym (refusing (windowStartSet (w .before .args .x)) (w .before .args .s) (sym (w .well-formed .ensures) ∙ not-true _ (c .before .if1 .taken)))
+
+micros-of-requires : tie.Need-micros-of-requires
+micros-of-requires c κs = search needs
+
+enum-told : tie.Need-enum-told
+enum-told c = search needs
+
+refuse-requires-2 : tie.Need-refuse-requires-2
+refuse-requires-2 c κs = search needs
+
+enum-known-m : tie.Need-enum-known-m
+enum-known-m c = search needs
+
+start-at-requires : tie.Need-start-at-requires
+start-at-requires c κs = search needs
+
+-- what the conversion answered decides
+answered : (c : tie.After-micros-of) → startBy (c .before .before .before .args .s) (c .before .before .before .args .x) (c .micros-of .result) ≡ windowStartAnswer (c .before .before .before .args .x) (c .before .before .before .args .s)
+unfolding windowStartAnswer
+answered c =
+    let a = c .before .before .before .args in
+    let h : wellFormed (a .s) ≡ true = sym (c .before .before .well-formed .ensures) ∙ not-false _ (c .before .if1 .left) in
+    ap (startBy (a .s) (a .x)) (c .micros-of .ensures) ∙ sym (going-on (windowStartSet (a .x)) (a .s) h ∙ start-by (a .s) h (a .x))
+
+returns-2 : tie.Need-returns-2
+returns-2 c =
+    let m = c .before .before .before in
+    let a = m .before .before .before .args in
+    let e : Refused ≡ m .micros-of .result = cc in
+    c .refuse2 .ensures ∙ ap (startBy (a .s) (a .x)) e ∙ answered m
+
+returns-3 : tie.Need-returns-3
+returns-3 c =
+    let k = c .before in
+    let m = k .before .before .before in
+    let a = m .before .before .before .args in
+    let z = k .before .m .given .0 .0 in
+    let e : At z ≡ m .micros-of .result = sym (k .before .m .given .1) in
+    told z (record { sfits = k .known-told .given .0 .1 }) (startAt (a .s) (a .x)) (c .start-at .ensures) ∙ ap (startBy (a .s) (a .x)) e ∙ answered m
+
+pub set-window-start-spec : {M : Type 1} → statement M
+set-window-start-spec =
+    tie.close
+    (tie.spec
+    well-formed-requires
+    refuse-requires
+    returns
+    micros-of-requires
+    enum-told
+    refuse-requires-2
+    enum-known-m
+    start-at-requires
+    returns-2
+    returns-3)
