@@ -1,0 +1,148 @@
+-- What a reader can cite of a report that is not refused: an instant is reported as held exactly when it is covered, neighbouring
+-- ranges never touch, and an instant that is not covered parts the ranges around it.
+use mathlib.Core.Path.{_≡_, refl, sym, ap, _∙_}
+use mathlib.Core.Bool.{Bool, true, false, not, _&&_, _||_}
+use mathlib.Core.List.{List, [], _∷_, _++_}
+use Prim.Native.Nat.{ℕ, zero, suc, _≤_}
+use native.Mathlib.Omega.{arith}
+use lib.Dec.{ltb, leb}
+use lib.IntN.{ℤ}
+use lib.ListN.{length, take, drop, length-map}
+use lib.Seq.{take-at}
+use lib.Signed.{_<ℤ_}
+use borrow.Author.Tests.{leb-true}
+use Rattle.laws.proofs.BoolLaws.{split, both-ways, and-left, and-right, or-none-left, or-none-right}
+use Rattle.laws.proofs.IntLaws.{weaken, le-lt, lt-lt}
+use Rattle.buffer_state.specs.declared.Count.{Count}
+use Rattle.buffer_state.specs.declared.Count.the-variants as Count
+use Rattle.buffer_state.specs.declared.Refusal.{Refusal}
+use Rattle.buffer_state.specs.declared.Refusal.the-variants.{NoTrack, ShortRanges}
+use Rattle.buffer_state.specs.declared.State.{State}
+use Rattle.buffer_state.specs.Answers.{rangeCount, rangesAfter, laid, trackRangesResult, commonRangesResult}
+use Rattle.buffer_state.specs.Buffer.{Buffer, hasTrack}
+use Rattle.buffer_state.specs.Layout.{bufferOf, wellFormed}
+use Rattle.buffer_state.specs.Ranges.{Range, liesIn, inRanges, rising, coveredOn, coveredOnAll, rangesOf, commonRangesOf, trackRanges, commonRanges}
+use Rattle.buffer_state.specs.Refusals.{Result, done, refuseIf}
+use Rattle.buffer_state.specs.WellFormed.{allOf, goodCount, goodTracks, goodBuffer}
+use Rattle.buffer_laws.proofs.GoodLaws.{good-facts}
+use Rattle.buffer_laws.proofs.LayoutLaws.{well-formed-good, on-well-formed}
+use Rattle.buffer_laws.proofs.RangeLaws.{ranges-cover}
+use Rattle.buffer_laws.proofs.ReportLaws.{report-rises, common-report-rises}
+use Rattle.buffer_laws.proofs.CommonLaws.{common-cover}
+use Rattle.buffer_laws.proofs.RisingLaws.{lies-from, lies-to, lies-between}
+use Rattle.buffer_laws.proofs.TestLaws.{all-none, all-more}
+use Rattle.ranges.specs.Bars.{Reported, stored}
+use Rattle.ranges.specs.Read.{rangesIn}
+use Rattle.ranges.proofs.CallLaws.{track-ill-formed, common-ill-formed}
+
+-- the first range, or the later ones
+first : (t : ℤ) (q : Range) (qs : List Range) → inRanges t (q ∷ qs) ≡ false → (liesIn t q || inRanges t qs) ≡ false
+unfolding inRanges
+first t q qs e = e
+
+some-track : (b : Buffer) → goodBuffer b ≡ true → 1 ≤ length (b .tracks)
+unfolding goodTracks
+some-track b h = leb-true 1 (length (b .tracks)) (and-left (leb 1 (length (b .tracks))) _ (and-left (goodCount (length (b .tracks))) _ (good-facts b h .tracks)))
+
+-- ---- a report that is not refused, read back
+
+laid-read : (rs : List Range) → rangesIn (laid rs) ≡ rs
+laid-read [] = refl
+laid-read (r ∷ rs) = ap (λ (l : List Range). r ∷ l) (laid-read rs)
+
+refusal-no-count : {why : Refusal} {n : ℕ} → Count.Refused why ≡ Count.Done n → ⊥
+refusal-no-count e = let z : _≡_ {A = ℕ} 0 1 = cc in omega arith
+
+read-back : (result : Result (List Range)) (rs : List Range) (r : Count) (n : ℕ) (after before : List (List ℤ)) → Reported r after result before → r ≡ Count.Done n
+    → result ≡ done rs → rangesIn (take n after) ≡ rs
+read-back result rs r n after before told counted e =
+    let same : Count.Done n ≡ Count.Done (length rs) = sym counted ∙ told .answer ∙ ap rangeCount e in
+    let size : n ≡ length rs = cc in
+    let list : after ≡ laid rs ++ drop (length rs) before = told .list ∙ ap (λ (x : Result (List Range)). rangesAfter x before) e in
+    let front : take n after ≡ laid rs = rw (list, size) (take-at (laid rs) (drop (length rs) before) (length rs) (length-map rs _)) in
+    ap rangesIn front ∙ laid-read rs
+
+module _ (lent track : ℕ) (s : State) (r : Count) (n : ℕ) (after before : List (List ℤ))
+    (told : Reported r after (trackRangesResult lent track s) before) (counted : r ≡ Count.Done n) where
+  done-track : (a b : Bool) (rs : List Range) → rangeCount (refuseIf (not a) NoTrack (refuseIf b ShortRanges (done rs))) ≡ Count.Done n
+      → refuseIf (not a) NoTrack (refuseIf b ShortRanges (done rs)) ≡ done rs
+  done-track false b rs e = absurd (refusal-no-count e)
+  done-track true true rs e = absurd (refusal-no-count e)
+  done-track true false rs e = refl
+
+  answered : rangeCount (trackRangesResult lent track s) ≡ Count.Done n
+  answered = sym (told .answer) ∙ counted
+
+  well : wellFormed s ≡ true
+  well =
+      split (wellFormed s) (λ h. h)
+      (λ h. absurd (refusal-no-count (sym (ap rangeCount (track-ill-formed lent track s h)) ∙ answered)))
+
+  track-done : trackRangesResult lent track s ≡ done (rangesOf track (stored s))
+  unfolding trackRangesResult trackRanges
+  track-done =
+      let same = on-well-formed (trackRanges lent track) s well in
+      same ∙ done-track (hasTrack (bufferOf s) track) (ltb lent (length (rangesOf track (stored s)))) (rangesOf track (stored s)) (sym (ap rangeCount same) ∙ answered)
+
+  -- the ranges that the reader finds in the list, up to the count
+  reported : rangesIn (take n after) ≡ rangesOf track (stored s)
+  reported = read-back (trackRangesResult lent track s) (rangesOf track (stored s)) r n after before told counted track-done
+
+  -- An instant is reported as held on a track exactly when a stored frame's interval covers it.
+  pub held-exactly : (t : ℤ) → inRanges t (rangesIn (take n after)) ≡ coveredOn track t (stored s)
+  held-exactly t = ap (inRanges t) reported ∙ ranges-cover track t (stored s)
+
+  -- Two neighbouring ranges never touch: each ends strictly before the next starts.
+  pub never-touch : rising (rangesIn (take n after)) ≡ true
+  never-touch = ap rising reported ∙ report-rises (bufferOf s) (good-facts (bufferOf s) (well-formed-good s well)) track
+
+  -- An instant that no frame covers, be it a gap of one microsecond, parts the ranges: none holds an instant on both sides of it.
+  pub gap-parts : (a t b : ℤ) → a <ℤ t → t <ℤ b → coveredOn track t (stored s) ≡ false → allOf (λ (q : Range). not (liesIn a q && liesIn b q)) (rangesIn (take n after)) ≡ true
+  gap-parts a t b h k e = go (rangesIn (take n after)) (held-exactly t ∙ e)
+    where
+      apart : (q : Range) → liesIn t q ≡ false → not (liesIn a q && liesIn b q) ≡ true
+      apart q out =
+          split (liesIn a q && liesIn b q)
+          (λ e. both-ways (lies-between t q (weaken (le-lt (lies-from a q (and-left _ _ e)) h)) (lt-lt k (lies-to b q (and-right (liesIn a q) _ e)))) out)
+          (λ e. rw e)
+
+      go : (qs : List Range) → inRanges t qs ≡ false → allOf (λ (q : Range). not (liesIn a q && liesIn b q)) qs ≡ true
+      go [] e = all-none _
+      go (q ∷ qs) e = all-more _ q qs (apart q (or-none-left (liesIn t q) (inRanges t qs) (first t q qs e))) (go qs (or-none-right (liesIn t q) (inRanges t qs) (first t q qs e)))
+
+-- The common report: an instant is reported exactly when every track covers it, and neighbouring ranges never touch.
+module _ (lent : ℕ) (s : State) (r : Count) (n : ℕ) (after before : List (List ℤ))
+    (told : Reported r after (commonRangesResult lent s) before) (counted : r ≡ Count.Done n) where
+  done-common : (b : Bool) (rs : List Range) → rangeCount (refuseIf b ShortRanges (done rs)) ≡ Count.Done n → refuseIf b ShortRanges (done rs) ≡ done rs
+  done-common true rs e = absurd (refusal-no-count e)
+  done-common false rs e = refl
+
+  common-answered : rangeCount (commonRangesResult lent s) ≡ Count.Done n
+  common-answered = sym (told .answer) ∙ counted
+
+  common-well : wellFormed s ≡ true
+  common-well =
+      split (wellFormed s) (λ h. h)
+      (λ h. absurd (refusal-no-count (sym (ap rangeCount (common-ill-formed lent s h)) ∙ common-answered)))
+
+  common-done : commonRangesResult lent s ≡ done (commonRangesOf (length (bufferOf s .tracks)) (stored s))
+  unfolding commonRangesResult commonRanges
+  common-done =
+      let same = on-well-formed (commonRanges lent) s common-well in
+      same ∙ done-common (ltb lent (length (commonRangesOf (length (bufferOf s .tracks)) (stored s)))) _ (sym (ap rangeCount same) ∙ common-answered)
+
+  common-read : rangesIn (take n after) ≡ commonRangesOf (length (bufferOf s .tracks)) (stored s)
+  common-read = read-back (commonRangesResult lent s) _ r n after before told counted common-done
+
+  pub common-held-exactly : (t : ℤ) → inRanges t (rangesIn (take n after)) ≡ coveredOnAll (length (bufferOf s .tracks)) t (stored s)
+  common-held-exactly t = ap (inRanges t) common-read ∙ on-every (length (bufferOf s .tracks)) some
+    where
+      some : 1 ≤ length (bufferOf s .tracks)
+      some = some-track (bufferOf s) (well-formed-good s common-well)
+
+      on-every : (m : ℕ) → 1 ≤ m → inRanges t (commonRangesOf m (stored s)) ≡ coveredOnAll m t (stored s)
+      on-every zero h = absurd (omega arith)
+      on-every (suc m) h = common-cover m t (stored s)
+
+  pub common-never-touch : rising (rangesIn (take n after)) ≡ true
+  common-never-touch = ap rising common-read ∙ common-report-rises (bufferOf s) (good-facts (bufferOf s) (well-formed-good s common-well)) _

@@ -1,0 +1,82 @@
+-- A track has at most as many ranges as frames, and the tracks' frames are apart: there are places for what all tracks have in common.
+use mathlib.Core.Path.{_≡_, refl}
+use mathlib.Core.Bool.{Bool, true, false, cond}
+use mathlib.Core.List.{List, [], _∷_}
+use Prim.Native.Nat.{ℕ, zero, suc, _+_, _≤_, _<_}
+use native.Mathlib.Numerals.{add-one}
+use native.Mathlib.Omega.{arith}
+use lib.Dec.{leb, eqb}
+use lib.ListN.{length}
+use lib.Signed.{ltZ}
+use borrow.Author.Tests.{leb-true, leb-false, le-leb, lt-leb, eqb-true, eqb-false, ne-eqb}
+use Rattle.laws.proofs.BoolLaws.{split, by-test}
+use Rattle.buffer_state.specs.declared.Frame.{Frame}
+use Rattle.buffer_state.specs.Buffer.{endOf}
+use Rattle.buffer_state.specs.Ranges.{Range, joined, common, rangesOf, commonRangesOf}
+use Rattle.buffer_laws.proofs.RangeLaws.{hull}
+
+-- how many frames pass
+pub counted : (Frame → Bool) → List Frame → ℕ
+counted p [] = 0
+counted p (f ∷ fs) = cond (p f) 1 0 + counted p fs
+
+-- how many frames are on a track, and on tracks up to one
+abbrev onTrack : ℕ → List Frame → ℕ
+onTrack t = counted (λ f. eqb (f .track) t)
+
+abbrev pub upTo : ℕ → List Frame → ℕ
+upTo t = counted (λ f. leb (f .track) t)
+
+one-more : (x t : ℕ) → cond (leb x (t + 1)) 1 0 ≡ cond (leb x t) 1 0 + cond (eqb x (t + 1)) 1 0
+one-more x t =
+    split (leb x t)
+    (λ a. let h : x ≤ t = leb-true x t a in rw (a, le-leb x (t + 1) (omega arith), ne-eqb x (t + 1) (omega arith)))
+    (λ a. let h : t < x = leb-false x t a in
+    split (eqb x (t + 1))
+    (λ b. let e : x ≡ t + 1 = eqb-true x (t + 1) b in rw (a, b, le-leb x (t + 1) (omega arith)))
+    (λ b. let e : x ≡ t + 1 → ⊥ = eqb-false x (t + 1) b in rw (a, b, lt-leb x (t + 1) (omega arith))))
+
+-- each frame counts on one track
+up-next : (t : ℕ) (fs : List Frame) → upTo (t + 1) fs ≡ upTo t fs + onTrack (t + 1) fs
+unfolding counted
+up-next t [] = refl
+up-next t (f ∷ fs) = omega (arith, up-next t fs, one-more (f .track) t)
+
+pub up-all : (t : ℕ) (fs : List Frame) → upTo t fs ≤ length fs
+unfolding counted
+up-all t [] = omega arith
+up-all t (f ∷ fs) =
+    by-test (λ n. n + upTo t fs ≤ suc (length fs)) (leb (f .track) t) {x = 1} {y = 0} (λ _. omega (arith, up-all t fs)) (λ _. omega (arith, up-all t fs))
+
+-- ---- ranges and frames
+
+joined-few : (r : Range) (qs : List Range) → length (joined r qs) ≤ suc (length qs)
+unfolding joined
+joined-few r [] = omega arith
+joined-few r (q ∷ qs) =
+    let Few : List Range → Type 0 = λ l. length l ≤ suc (suc (length qs)) in
+    by-test Few (ltZ (r .end) (q .start)) {x = r ∷ q ∷ qs} (λ _. omega arith) (λ _.
+    by-test Few (ltZ (q .end) (r .start)) {x = q ∷ joined r qs} {y = joined (hull r q) qs}
+    (λ _. omega (arith, joined-few r qs)) (λ _. omega (arith, joined-few (hull r q) qs)))
+
+if-few : (b : Bool) (r : Range) (qs : List Range) (n : ℕ) → length qs ≤ n → length (cond b (joined r qs) qs) ≤ cond b 1 0 + n
+if-few true r qs n h = omega (arith, joined-few r qs)
+if-few false r qs n h = omega arith
+
+ranges-few : (t : ℕ) (fs : List Frame) → length (rangesOf t fs) ≤ onTrack t fs
+unfolding rangesOf counted
+ranges-few t [] = omega arith
+ranges-few t (f ∷ fs) = if-few (eqb (f .track) t) (record { start = f .pts; end = endOf f }) (rangesOf t fs) _ (ranges-few t fs)
+
+pub first-few : (fs : List Frame) → length (rangesOf 1 fs) ≤ upTo 1 fs
+first-few fs = omega (arith, up-next 0 fs, ranges-few 1 fs)
+
+pub next-few : (t : ℕ) (fs : List Frame) → upTo t fs + length (rangesOf (t + 1) fs) ≤ upTo (t + 1) fs
+next-few t fs = omega (arith, up-next t fs, ranges-few (t + 1) fs)
+
+-- ---- one track more
+
+pub common-next : (t : ℕ) (fs : List Frame) → 1 ≤ t → commonRangesOf (t + 1) fs ≡ common (commonRangesOf t fs) (rangesOf (t + 1) fs)
+unfolding commonRangesOf
+common-next zero fs h = absurd (omega arith)
+common-next (suc t) fs h = rw (add-one (suc t))

@@ -1,0 +1,9 @@
+pub mod BarLaws
+pub mod CountLaws
+pub mod KeyLaws
+pub mod MeetLaws
+pub mod StoresLaws
+pub mod SweepLaws
+pub mod TimeLaws
+pub mod CallLaws
+pub mod Cited
