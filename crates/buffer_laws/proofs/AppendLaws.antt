@@ -32,13 +32,13 @@ use Rattle.buffer_laws.proofs.GoodLaws.{need-good, restarted-good, trac
 -- ---- steps 1 and 2
 
 -- what refusal 7 asks of a pass, part by part
-record Fits (p : Pass) : Type 0 where
-  offset : resultTime (p .buffer .settings .offset .micros) ≡ true
-  pts : resultTime (p .frame .pts) ≡ true
-  dts : resultTime (p .frame .dts) ≡ true
-  end : resultTime (endOffered (p .frame)) ≡ true
+pub record Fits (p : Pass) : Type 0 where
+  pub offset : resultTime (p .buffer .settings .offset .micros) ≡ true
+  pub pts : resultTime (p .frame .pts) ≡ true
+  pub dts : resultTime (p .frame .dts) ≡ true
+  pub end : resultTime (endOffered (p .frame)) ≡ true
 
-fits-facts : (p : Pass) → fits p ≡ true → Fits p
+pub fits-facts : (p : Pass) → fits p ≡ true → Fits p
 unfolding fits
 fits-facts p e =
     let e₁ = and-right (resultTime (p .buffer .settings .offset .micros)) _ e in
@@ -68,7 +68,7 @@ step-one-good b f g =
     })
     (λ _ _. g)
 
-pass-good : (b : Buffer) (f : Offered) → Good b → fits (passOf b f) ≡ true → Good (passOf b f .buffer)
+pub pass-good : (b : Buffer) (f : Offered) → Good b → fits (passOf b f) ≡ true → Good (passOf b f .buffer)
 unfolding passOf
 pass-good b f g h = step-one-good b f g (fits-facts (passOf b f) h .offset)
 
@@ -111,7 +111,7 @@ pub record FromPass (b : Buffer) (f : Offered) (p : Pass) : Type 0 where
   pub buffer : Untouched b (p .buffer)
   pub frame : Moved f (p .frame)
 
-first-from : (b : Buffer) (f : Offered) → FromPass b f (passOf b f)
+pub first-from : (b : Buffer) (f : Offered) → FromPass b f (passOf b f)
 unfolding passOf stepTwo
 first-from b f = record { buffer = step-one-untouched b f; frame = record { track = refl; flagged = refl; duration = refl } }
 
@@ -164,12 +164,12 @@ no-third-pass b f =
     not-true _ (all-getD (λ (t : Track). not (t .known)) (stepOne c f .tracks) (f .track - 1) zeroTrack refl unset) in
     rw none
 
-record GoodPass (p : Pass) : Type 0 where
-  buffer : Good (p .buffer)
-  fit : Fits p
+pub record GoodPass (p : Pass) : Type 0 where
+  pub buffer : Good (p .buffer)
+  pub fit : Fits p
 
 -- A frame that is not refused by 7 leaves both passes with a good buffer and times inside the limits.
-last-pass-good : (b : Buffer) (f : Offered) → Good b → leavesLimits b f ≡ false → GoodPass (lastPass b f)
+pub last-pass-good : (b : Buffer) (f : Offered) → Good b → leavesLimits b f ≡ false → GoodPass (lastPass b f)
 unfolding lastPass leavesLimits secondPass
 last-pass-good b f g e =
     let p = passOf b f in

@@ -163,7 +163,7 @@ fn walk(s: State, keys: [u64; 1024], n: usize) -> Bars
 }
 
 // The ranges of a track.
-pub fn track_bars(s: State, track: u8) -> Bars
+fn track_bars(s: State, track: u8) -> Bars
     requires { ⌜ Stores s ⌝ }
     ensures { λ r. ⌜ Shows r (rangesOf track (stored s)) ⌝ }
 {
@@ -224,7 +224,7 @@ fn places_of(a: Span) -> usize
 }
 
 // What two lists of ranges have in common: of the next two ranges the one that ends sooner is done with.
-pub fn both_bars(a: Bars, b: Bars) -> Bars
+fn both_bars(a: Bars, b: Bars) -> Bars
     requires { ⌜ Meets a b ⌝ }
     ensures { λ r. ⌜ (Shows r (common (barsOf a) (barsOf b))) × (r .count ≤ a .count + b .count) ⌝ }
 {
@@ -254,7 +254,7 @@ pub fn both_bars(a: Bars, b: Bars) -> Bars
 }
 
 // The ranges that all tracks have in common.
-pub fn common_bars(s: State) -> Bars
+fn common_bars(s: State) -> Bars
     requires { ⌜ (Stores s) × (1 ≤ s .ntracks) × (s .ntracks ≤ 4) ⌝ }
     ensures { λ r. ⌜ Shows r (commonRangesOf (s .ntracks) (stored s)) ⌝ }
 {
@@ -273,7 +273,7 @@ pub fn common_bars(s: State) -> Bars
 // ---- the lent list
 
 // Writes each range's start and end, and returns how many there are.
-pub fn write_bars(b: Bars, list: &mut [[i64; 2]]) -> usize
+fn write_bars(b: Bars, list: &mut [[i64; 2]]) -> usize
     requires { ⌜ (b .count ≤ 1024) × (b .count ≤ length (now list)) ⌝ }
     ensures { λ r. ⌜ (now (list .exit) ≡ laid (barsOf b) ++ drop r (now (list .entry))) × (r ≡ length (barsOf b)) ⌝ }
 {
