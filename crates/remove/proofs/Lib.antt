@@ -1,0 +1,5 @@
+pub mod SpanLaws
+pub mod PlaceLaws
+pub mod EdgeLaws
+pub mod LossLaws
+pub mod CallLaws

@@ -1,0 +1,42 @@
+-- By whether there was a loss; the rest of the state stays.
+use mathlib.Core.Path.{_≡_}
+use mathlib.Core.Bool.{true, false, cond}
+use borrow.Author.Needs.{needs}
+use borrow.Author.Tests.{not-true, not-false}
+use Rattle.laws.proofs.WordLaws.{told}
+use Rattle.buffer_state.specs.Buffer.{isSequence, startAtEnd, withEnd}
+use Rattle.remove.proofs.settled.Statement.{statement}
+use Rattle.remove.proofs.settled.Tie as tie
+
+returns : tie.Need-returns
+returns c = let off : c .before .before .args .first .set ≡ false = not-true _ (c .if1 .taken) in rw off
+
+need-all-requires : tie.Need-need-all-requires
+need-all-requires c κs = search needs
+
+regroup-requires : tie.Need-regroup-requires
+regroup-requires c κs = search needs
+
+returns-2 : tie.Need-returns-2
+returns-2 c =
+    let k = c .before .before in
+    let n = k .before .before in
+    let e = n .before .before in
+    let a = e .before .before .args in
+    let s = a .s in
+    let on : a .first .set ≡ true = not-false _ (e .if1 .left) in
+    let g = told (a .first .micros) (search needs) (λ z. cond (isSequence (s .mode)) (startAtEnd (s .group)) (withEnd (s .group) z)) (k .regroup .ensures) in
+    let t = n .need-all .ensures in
+    rw on (λ j. record {
+      frames = s .frames;
+      nframes = s .nframes;
+      tracks = t j;
+      ntracks = s .ntracks;
+      mode = s .mode;
+      group = g j;
+      last = s .last;
+      settings = s .settings;
+    })
+
+pub settled-spec : {M : Type 1} → statement M
+settled-spec = tie.close (tie.spec returns need-all-requires regroup-requires returns-2)

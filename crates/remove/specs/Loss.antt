@@ -1,0 +1,41 @@
+-- The rule on the last decode time in the words of the code: where the first frame that ends its track was shown, and the state after it.
+use mathlib.Core.Bool.{Bool, cond, _&&_}
+use mathlib.Core.List.{List, [], _∷_, _++_}
+use lib.ListN.{take, drop}
+use Rattle.seconds.specs.Seconds.{Bound, unbounded, at, sameInt}
+use Rattle.buffer_state.specs.declared.State.{State}
+use Rattle.buffer_state.specs.declared.Track.{Track}
+use Rattle.buffer_state.specs.Buffer.{Buffer, trackOf, restartAll, isSequence, startAtEnd, withEnd}
+use Rattle.buffer_state.specs.Store.{Marked, isTaken}
+
+-- a frame that is taken, and has the track's last decode time
+abbrev pub endsOn : Track → Marked → Bool
+endsOn t m = isTaken m && (t .known && sameInt (m .frame .dts) (t .dts))
+
+-- where such a frame was shown
+abbrev pub lossAt : Track → Marked → Bound
+lossAt t m = cond (endsOn t m) (at (m .frame .pts)) unbounded
+
+-- the one found first, if there is one, or else the next
+abbrev pub firstOf : Bound → Bound → Bound
+firstOf unbounded next = next
+firstOf (at z) next = at z
+
+-- the presentation time of the first taken frame that ends its track, or none
+unfoldable pub lossOf : Buffer → List Marked → Bound
+lossOf b [] = unbounded
+lossOf b (m ∷ ms) = firstOf (lossAt (trackOf b (m .frame .track)) m) (lossOf b ms)
+
+-- the state after such a loss: regrouped there, every track begun again
+abbrev pub settledBy : Bound → State → State
+settledBy unbounded s = s
+settledBy (at p) s = record {
+  frames = s .frames;
+  nframes = s .nframes;
+  tracks = restartAll (take (s .ntracks) (s .tracks)) ++ drop (s .ntracks) (s .tracks);
+  ntracks = s .ntracks;
+  mode = s .mode;
+  group = cond (isSequence (s .mode)) (startAtEnd (s .group)) (withEnd (s .group) p);
+  last = s .last;
+  settings = s .settings;
+}
