@@ -6,11 +6,10 @@ use native.Mathlib.Omega.{arith}
 use lib.IntN.{ℤ, pos, negsuc, negℤ, natAbs, _+ℤ_, _-ℤ_}
 use lib.Signed.{ltZ, mag, natAbs-le}
 use mir.Syntax.{w64}
-use mir.Val.{SFits, ofZ, toZ}
+use mir.Val.{SFits}
 use borrow.Author.Tests.{leb-true}
 use Rattle.laws.proofs.BoolLaws.{split, by-test, and-left, and-right}
 use Rattle.laws.proofs.IntLaws.{mag-add}
-use Rattle.laws.proofs.WordLaws.{told, told₂}
 use Rattle.seconds.proofs.SecondsLaws.{same-int}
 use Rattle.buffer_state.specs.declared.Offered.{Offered}
 use Rattle.buffer_state.specs.declared.Track.{Track}
@@ -71,8 +70,3 @@ raised-fits a b f g = by-test (SFits w64) (ltZ a b) (λ _. g) (λ _. f)
 -- the highest end, raised or set
 pub highest-fits : (known : Bool) (a b : ℤ) → SFits w64 a → SFits w64 b → SFits w64 (cond known (raised a b) b)
 highest-fits known a b f g = by-test (SFits w64) known (λ _. raised-fits a b f g) (λ _. g)
-
--- what a call says of three signed arguments
-pub told₃ : {A : Type 0} {r : A} (x y z : ℤ) → SFits w64 x → SFits w64 y → SFits w64 z → (p : ℤ → ℤ → ℤ → A)
-    → r ≡ p (toZ w64 (ofZ w64 x)) (toZ w64 (ofZ w64 y)) (toZ w64 (ofZ w64 z)) → r ≡ p x y z
-told₃ x y z f g h p e = told z h (p x y) (told₂ x y f g (λ a b. p a b (toZ w64 (ofZ w64 z))) e)

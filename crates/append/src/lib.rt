@@ -38,20 +38,20 @@ const LAST_NUMBER: u32 = 4294967295;
 const PLACES: usize = 1024; // in the store, and lines that a lent fate list needs
 
 // All of a state but its frames.
-pub struct Head {
-    pub tracks: [Track; 4],
-    pub ntracks: usize,
-    pub mode: Mode,
-    pub group: Group,
-    pub last: u32,
-    pub settings: Settings,
+struct Head {
+    tracks: [Track; 4],
+    ntracks: usize,
+    mode: Mode,
+    group: Group,
+    last: u32,
+    settings: Settings,
 }
 
 // A pass: the head after step 1, the frame after step 2, and whether they are inside the result limits.
-pub struct Passed {
-    pub head: Head,
-    pub frame: Offered,
-    pub fits: bool,
+struct Passed {
+    head: Head,
+    frame: Offered,
+    fits: bool,
 }
 
 // The head of the state.

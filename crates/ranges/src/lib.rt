@@ -17,21 +17,21 @@ ghost use Rattle.buffer_state.specs.Answers.{laid, trackRangesResult, commonRan
 ghost use Rattle.ranges.specs.Sweep.{timely, keyOf, trackKeys, Keyed, frameAt, stretchOf, grown, stretches, swept};
 
 // From start up to but not including end, in microseconds.
-pub struct Span {
-    pub start: i64,
-    pub end: i64,
+struct Span {
+    start: i64,
+    end: i64,
 }
 
 // Ranges, as many as count.
-pub struct Bars {
-    pub spans: [Span; 1024],
-    pub count: usize,
+struct Bars {
+    spans: [Span; 1024],
+    count: usize,
 }
 
 // Numbers to be sorted, as many as count.
-pub struct Keys {
-    pub keys: [u64; 1024],
-    pub count: usize,
+struct Keys {
+    keys: [u64; 1024],
+    count: usize,
 }
 
 fn zero_span() -> Span {

@@ -9,10 +9,9 @@ use lib.IntN.{ℤ}
 use lib.Signed.{leZ}
 use mir.Syntax.{w64}
 use mir.Val.{SFits}
-use Rattle.laws.proofs.WordLaws.{told₂}
+use Rattle.laws.proofs.WordLaws.{told₂, told₃}
 use Rattle.buffer_state.specs.Append.{endOffered, between, overlapped}
 use Rattle.validation.proofs.LimitLaws.{end-fits}
-use Rattle.append.proofs.FitLaws.{told₃}
 use Rattle.append.proofs.overlaps.Statement.{statement}
 use Rattle.append.proofs.overlaps.Tie as tie
 
