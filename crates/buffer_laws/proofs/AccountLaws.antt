@@ -17,14 +17,14 @@ use Rattle.buffer_state.specs.Buffer.{Buffer, fresh}
 use Rattle.buffer_state.specs.Refusals.{done}
 use Rattle.buffer_state.specs.Settings.{create}
 use Rattle.buffer_state.specs.Store.{Line}
-use Rattle.buffer_state.specs.Run.{Call, replyTo, linesIn, offeredBy, run, lastOf, handedOut, offers, trackOffered, total, count, foundStored, foundTold, offeredOn, storedOn, toldOn, droppedOn, removedOn}
+use Rattle.buffer_state.specs.Run.{Call, replyTo, linesIn, offeredBy, run, lastOf, handedOut, offers, trackOffered, onOffered, total, count, foundStored, foundTold, offeredOn, storedOn, toldOn, droppedOn, removedOn}
 use Rattle.buffer_state.specs.WellFormed.{allOf}
 use Rattle.buffer_laws.proofs.TestLaws.{all-first, all-rest, all-none}
 use Rattle.buffer_laws.proofs.StoreLaws.{frameWeight}
 use Rattle.buffer_laws.proofs.GoodLaws.{Good}
 use Rattle.buffer_laws.proofs.AppendLaws.{knownCause}
 use Rattle.buffer_laws.proofs.SettingLaws.{created-good}
-use Rattle.buffer_laws.proofs.RunLaws.{numbersAfter, onOffered, reply-lawful, run-lawful}
+use Rattle.buffer_laws.proofs.RunLaws.{numbersAfter, reply-lawful, run-lawful}
 
 -- ---- conservation, in numbers
 

@@ -25,7 +25,7 @@ use Rattle.buffer_state.specs.Append.{Outcome, nextNumber, storedAs, offerable,
 use Rattle.buffer_state.specs.Remove.{beforeBound, removed, remove}
 use Rattle.buffer_state.specs.Ranges.{Range, trackRanges, commonRanges}
 use Rattle.buffer_state.specs.Settings.{create, aborted, modeSet, offsetSet, windowStartSet, windowEndSet}
-use Rattle.buffer_state.specs.Run.{Call, appendCall, removeCall, abortCall, modeCall, offsetCall, windowStartCall, windowEndCall, readCall, rangesCall, commonCall, Answer, ok, ranges, Reply, byOutcome, bySetting, byRanges, replyTo, run, lastOf, linesIn, handedOut, offeredBy, offers, trackOffered, total}
+use Rattle.buffer_state.specs.Run.{Call, appendCall, removeCall, abortCall, modeCall, offsetCall, windowStartCall, windowEndCall, readCall, rangesCall, commonCall, Answer, ok, ranges, Reply, byOutcome, bySetting, byRanges, replyTo, run, lastOf, linesIn, handedOut, offeredBy, offers, trackOffered, onOffered, total}
 use Rattle.buffer_state.specs.WellFormed.{allOf, goodFrame}
 use Rattle.buffer_laws.proofs.TestLaws.{all-none, all-from-both, all-append}
 use Rattle.buffer_laws.proofs.LayoutLaws.{good-well-formed, well-formed-good}
@@ -41,10 +41,6 @@ use Rattle.buffer_laws.proofs.SettingLaws.{IfDone, created-good, Set, a
 unfoldable pub numbersAfter : ℕ → ℕ → List ℕ
 numbersAfter n zero = []
 numbersAfter n (suc k) = (n + 1) ∷ numbersAfter (n + 1) k
-
--- a stored frame stands on the track on which its number was offered
-abbrev pub onOffered : List ℕ → Frame → Bool
-onOffered tracks f = eqb (f .track) (trackOffered tracks (f .number))
 
 -- What a call accounts for. `given` are the tracks of the frames that it was offered and took: none, or one.
 pub record Lawful (b : Buffer) (given : List ℕ) (lines : List Line) (c : Buffer) : Type 0 where

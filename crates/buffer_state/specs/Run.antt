@@ -119,6 +119,10 @@ offers (e ∷ es) = offeredBy (e .call) (e .result) ++ offers es
 abbrev pub trackOffered : List ℕ → ℕ → ℕ
 trackOffered tracks n = getD tracks (n - 1) 0
 
+-- a stored frame stands on the track on which its number was offered
+abbrev pub onOffered : List ℕ → Frame → Bool
+onOffered tracks f = eqb (f .track) (trackOffered tracks (f .number))
+
 -- the sum of a number for each element
 unfoldable pub total : {A : Type 0} → (A → ℕ) → List A → ℕ
 total w [] = 0

@@ -1,0 +1,198 @@
+-- What a call's contract says on the state that holds a good buffer, in the run's words: the run's reply on that buffer.
+use mathlib.Core.Path.{_≡_, refl, sym, ap, ap₂, _∙_}
+use mathlib.Core.Bool.{true}
+use mathlib.Core.List.{List, [], _∷_, _++_, map}
+use Prim.Native.Nat.{ℕ}
+use lib.IntN.{ℤ}
+use lib.Ieee.{Float}
+use lib.ListN.{length, take, drop, length-map}
+use lib.Seq.{take-at}
+use Rattle.buffer_state.specs.declared.Changed.{Changed}
+use Rattle.buffer_state.specs.declared.Count.{Count}
+use Rattle.buffer_state.specs.declared.Counted.{Counted}
+use Rattle.buffer_state.specs.declared.Mode.{Mode}
+use Rattle.buffer_state.specs.declared.Offered.{Offered}
+use Rattle.buffer_state.specs.declared.Read.{Read}
+use Rattle.buffer_state.specs.declared.State.{State}
+use Rattle.buffer_state.specs.declared.WindowEnd.{WindowEnd}
+use Rattle.buffer_state.specs.declared.WindowEnd.the-variants.{Unbounded, At}
+use Rattle.buffer_state.specs.Answers.{changed, abortAnswer, modeAnswer, offsetAnswer, windowStartAnswer, windowEndAnswer, readWith, read, settingsAnswer, counted, written, listAfter, appendResult, removeResult, rangeCount, laid, rangesAfter, trackRangesResult, commonRangesResult}
+use Rattle.buffer_state.specs.Append as Append
+use Rattle.buffer_state.specs.Append.{Outcome}
+use Rattle.buffer_state.specs.Buffer.{Buffer}
+use Rattle.buffer_state.specs.Layout.{stateOf, onState}
+use Rattle.buffer_state.specs.Ranges as Ranges
+use Rattle.buffer_state.specs.Ranges.{Range}
+use Rattle.buffer_state.specs.Refusals.{Result, refused, done}
+use Rattle.buffer_state.specs.Remove as Remove
+use Rattle.buffer_state.specs.Run.{fates, settings, ranges, byOutcome, bySetting, byRanges, replyTo}
+use Rattle.buffer_state.specs.Settings.{aborted, modeSet, offsetSet, windowStartSet, windowEndSet, reading}
+use Rattle.buffer_state.specs.Store.{Line}
+use Rattle.buffer_state.specs.WellFormed.{goodBuffer}
+use Rattle.buffer_laws.proofs.LayoutLaws.{on-laid-out}
+use Rattle.ranges.specs.Bars.{Reported}
+use Rattle.account.specs.Made.{Given, append, remove, abort, setMode, setOffset, setWindowStart, setWindowEnd, readSettings, trackRanges, commonRanges, asked, Back, Listed, lineOf, rangeOf, linesOf, rangesOf, changeOf, readingOf, resultOf, Kept, KeptBy}
+
+-- a call made on a state agrees with the run's reply: its result, the state that it leaves, what stays of a lent list
+pub record Agrees (b : Buffer) (g : Given) (back : Back g) (s : State) : Type 0 where
+  pub result : resultOf g back ≡ replyTo (asked g) b .result
+  pub state : s ≡ stateOf (replyTo (asked g) b .after)
+  pub kept : KeptBy g back
+
+-- ---- a list that was written: read back, and what stays
+
+map-back : {A B : Type 0} (f : A → B) (g : B → A) → ((x : A) → g (f x) ≡ x) → (l : List A) → map g (map f l) ≡ l
+map-back f g e [] = refl
+map-back f g e (x ∷ l) = λ i. e x i ∷ map-back f g e l i
+
+module _ {A B : Type 0} (f : A → B) (g : B → A) (e : (x : A) → g (f x) ≡ x) (l : List A) (rest : List B) where
+  first : take (length l) (map f l ++ rest) ≡ map f l
+  first = take-at (map f l) rest (length l) (length-map l f)
+
+  read-back : map g (take (length l) (map f l ++ rest)) ≡ l
+  read-back = ap (map g) first ∙ map-back f g e l
+
+  stays : map f l ++ rest ≡ take (length l) (map f l ++ rest) ++ rest
+  stays = ap (λ (xs : List B). xs ++ rest) (sym first)
+
+-- ---- what the answers of one kind say, for any result
+
+-- append and remove
+record Lined (b : Buffer) (x : Result Outcome) (lent : List (List ℕ)) (r : Counted) (after : List (List ℕ)) : Type 0 where
+  pub result : linesOf (record { answer = r .answer; after = after }) (r .answer) ≡ byOutcome b x .result
+  pub state : r .state ≡ stateOf (byOutcome b x .after)
+  pub kept : Kept lent (record { answer = r .answer; after = after })
+
+lined : (b : Buffer) (x : Result Outcome) (lent : List (List ℕ)) → Lined b x lent (counted (stateOf b) x) (listAfter x lent)
+lined b (refused why) lent = record { result = refl; state = refl; kept = refl }
+lined b (done o) lent =
+    let line : Line → List ℕ = λ l. l .number ∷ l .cause ∷ [] in
+    let ls = o .lines in
+    let rest = drop (length ls) lent in
+    record {
+      result = ap (λ (l : List Line). done (fates l)) (read-back line lineOf (λ x. refl) ls rest);
+      state = refl;
+      kept = stays line lineOf (λ x. refl) ls rest;
+    }
+
+-- the reports
+record Spanned (b : Buffer) (x : Result (List Range)) (lent : List (List ℤ)) (r : Count) (after : List (List ℤ)) : Type 0 where
+  pub result : rangesOf (record { answer = r; after = after }) r ≡ byRanges b x .result
+  pub state : stateOf b ≡ stateOf (byRanges b x .after)
+  pub kept : Kept lent (record { answer = r; after = after })
+
+spanned : (b : Buffer) (x : Result (List Range)) (lent : List (List ℤ)) → Spanned b x lent (rangeCount x) (rangesAfter x lent)
+spanned b (refused why) lent = record { result = refl; state = refl; kept = refl }
+spanned b (done rs) lent =
+    let place : Range → List ℤ = λ r. r .start ∷ r .end ∷ [] in
+    let rest = drop (length rs) lent in
+    record {
+      result = ap (λ (l : List Range). done (ranges l)) (read-back place rangeOf (λ x. refl) rs rest);
+      state = refl;
+      kept = stays place rangeOf (λ x. refl) rs rest;
+    }
+
+-- abort and the setters
+record Set (b : Buffer) (x : Result Buffer) (r : Changed) : Type 0 where
+  pub result : changeOf (r .answer) ≡ bySetting b x .result
+  pub state : r .state ≡ stateOf (bySetting b x .after)
+
+set : (b : Buffer) (x : Result Buffer) → Set b x (changed (stateOf b) x)
+set b (refused why) = record { result = refl; state = refl }
+set b (done c) = record { result = refl; state = refl }
+
+-- a reading
+read-said : (offset start : Float) (e : WindowEnd) → readingOf (readWith offset start e) ≡ done (settings (record { offset = offset; start = start; end = e }))
+read-said offset start Unbounded = refl
+read-said offset start (At x) = refl
+
+-- ---- each call, on the state that holds a good buffer
+
+module _ (b : Buffer) (good : goodBuffer b ≡ true) (s : State) (here : s ≡ stateOf b) where
+  on-buffer : {A : Type 0} (call : Buffer → Result A) → onState call s ≡ call b
+  on-buffer call = ap (onState call) here ∙ on-laid-out call b good
+
+  outcome : (call : Buffer → Result Outcome) (lent after : List (List ℕ)) (r : Counted)
+      → r ≡ counted s (onState call s) → after ≡ listAfter (onState call s) lent → Lined b (call b) lent r after
+  outcome call lent after r h k =
+      let e : r ≡ counted (stateOf b) (call b) = h ∙ ap₂ counted here (on-buffer call) in
+      let f : after ≡ listAfter (call b) lent = k ∙ ap (λ (x : Result Outcome). listAfter x lent) (on-buffer call) in
+      rw (e, f) (lined b (call b) lent)
+
+  report : (call : Buffer → Result (List Range)) (lent after : List (List ℤ)) (r : Count)
+      → Reported r after (onState call s) lent → Spanned b (call b) lent r after
+  report call lent after r h =
+      let e : r ≡ rangeCount (call b) = h .answer ∙ ap rangeCount (on-buffer call) in
+      let f : after ≡ rangesAfter (call b) lent = h .list ∙ ap (λ (x : Result (List Range)). rangesAfter x lent) (on-buffer call) in
+      rw (e, f) (spanned b (call b) lent)
+
+  setting : (call : Buffer → Result Buffer) (r : Changed) → r ≡ changed s (onState call s) → Set b (call b) r
+  setting call r h =
+      let e : r ≡ changed (stateOf b) (call b) = h ∙ ap₂ changed here (on-buffer call) in
+      rw e (set b (call b))
+
+  pub append-agrees : (f : Offered) (lent after : List (List ℕ)) (r : Counted)
+      → r ≡ counted s (appendResult (length lent) f s) → after ≡ listAfter (appendResult (length lent) f s) lent
+      → Agrees b (append f lent) (record { answer = r .answer; after = after }) (r .state)
+  unfolding appendResult replyTo
+  append-agrees f lent after r h k =
+      let o = outcome (Append.append (length lent) f) lent after r h k in
+      record { result = o .result; state = o .state; kept = o .kept }
+
+  pub remove-agrees : (start end : Float) (lent after : List (List ℕ)) (r : Counted)
+      → r ≡ counted s (removeResult (length lent) start end s) → after ≡ listAfter (removeResult (length lent) start end s) lent
+      → Agrees b (remove start end lent) (record { answer = r .answer; after = after }) (r .state)
+  unfolding removeResult replyTo
+  remove-agrees start end lent after r h k =
+      let o = outcome (Remove.remove (length lent) start end) lent after r h k in
+      record { result = o .result; state = o .state; kept = o .kept }
+
+  pub abort-agrees : (r : Changed) → r ≡ abortAnswer s → Agrees b abort (r .answer) (r .state)
+  unfolding abortAnswer replyTo
+  abort-agrees r h =
+      let o = setting (λ (c : Buffer). done (aborted c)) r h in
+      record { result = o .result; state = o .state; kept = tt }
+
+  pub mode-agrees : (m : Mode) (r : Changed) → r ≡ modeAnswer m s → Agrees b (setMode m) (r .answer) (r .state)
+  unfolding modeAnswer replyTo
+  mode-agrees m r h =
+      let o = setting (λ (c : Buffer). done (modeSet m c)) r h in
+      record { result = o .result; state = o .state; kept = tt }
+
+  pub offset-agrees : (x : Float) (r : Changed) → r ≡ offsetAnswer x s → Agrees b (setOffset x) (r .answer) (r .state)
+  unfolding offsetAnswer replyTo
+  offset-agrees x r h =
+      let o = setting (offsetSet x) r h in
+      record { result = o .result; state = o .state; kept = tt }
+
+  pub window-start-agrees : (x : Float) (r : Changed) → r ≡ windowStartAnswer x s → Agrees b (setWindowStart x) (r .answer) (r .state)
+  unfolding windowStartAnswer replyTo
+  window-start-agrees x r h =
+      let o = setting (windowStartSet x) r h in
+      record { result = o .result; state = o .state; kept = tt }
+
+  pub window-end-agrees : (x : Float) (r : Changed) → r ≡ windowEndAnswer x s → Agrees b (setWindowEnd x) (r .answer) (r .state)
+  unfolding windowEndAnswer replyTo
+  window-end-agrees x r h =
+      let o = setting (windowEndSet x) r h in
+      record { result = o .result; state = o .state; kept = tt }
+
+  pub reading-agrees : (r : Read) → r ≡ settingsAnswer s → Agrees b readSettings r s
+  unfolding settingsAnswer replyTo
+  reading-agrees r h =
+      let e : r ≡ read (done (reading b)) = h ∙ ap read (on-buffer (λ (c : Buffer). done (reading c))) in
+      record { result = ap readingOf e ∙ read-said _ _ (b .settings .end); state = here; kept = tt }
+
+  pub track-ranges-agrees : (track : ℕ) (lent after : List (List ℤ)) (r : Count) → Reported r after (trackRangesResult (length lent) track s) lent
+      → Agrees b (trackRanges track lent) (record { answer = r; after = after }) s
+  unfolding trackRangesResult replyTo
+  track-ranges-agrees track lent after r h =
+      let o = report (Ranges.trackRanges (length lent) track) lent after r h in
+      record { result = o .result; state = here ∙ o .state; kept = o .kept }
+
+  pub common-ranges-agrees : (lent after : List (List ℤ)) (r : Count) → Reported r after (commonRangesResult (length lent) s) lent
+      → Agrees b (commonRanges lent) (record { answer = r; after = after }) s
+  unfolding commonRangesResult replyTo
+  common-ranges-agrees lent after r h =
+      let o = report (Ranges.commonRanges (length lent)) lent after r h in
+      record { result = o .result; state = here ∙ o .state; kept = o .kept }
