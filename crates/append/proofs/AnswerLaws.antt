@@ -1,34 +1,27 @@
 -- The call's answer: each refusal where its test is the first to pass, and after all of them the last pass settled.
 use mathlib.Core.Path.{_≡_, sym, ap, _∙_}
 use mathlib.Core.Bool.{true, false, _&&_}
-use mathlib.Core.List.{List}
 use Prim.Native.Nat.{ℕ, _≤_, _<_}
 use native.Mathlib.Omega.{arith}
 use lib.Dec.{leb, eqb}
 use lib.ListN.{length}
 use borrow.Author.Tests.{lt-ltb, le-ltb, eq-eqb, eqb-false, leb-true}
 use Rattle.laws.proofs.BoolLaws.{and-left, and-right}
-use Rattle.buffer_state.specs.declared.Counted.{Counted}
 use Rattle.buffer_state.specs.declared.Offered.{Offered}
 use Rattle.buffer_state.specs.declared.Refusal.the-variants.{IllFormed, ShortFates, NoTrack, FrameLimits, ResultLimits, LastNumber}
 use Rattle.buffer_state.specs.declared.State.{State}
-use Rattle.buffer_state.specs.Answers.{counted, listAfter, appendResult}
-use Rattle.buffer_state.specs.Append.{Outcome, lastPass, leavesLimits, appended, offerable, append}
+use Rattle.buffer_state.specs.Answers.{appendResult}
+use Rattle.buffer_state.specs.Append.{lastPass, leavesLimits, appended, offerable, append}
 use Rattle.buffer_state.specs.Buffer.{withFrames}
 use Rattle.buffer_state.specs.Layout.{bufferOf, wellFormed}
 use Rattle.buffer_state.specs.Limits.{places, lastNumber}
-use Rattle.buffer_state.specs.Refusals.{Result, refused}
+use Rattle.buffer_state.specs.Refusals.{refused}
 use Rattle.buffer_laws.proofs.AppendLaws.{last-from, last-pass-good}
 use Rattle.buffer_laws.proofs.GoodLaws.{Good, good-facts}
 use Rattle.buffer_laws.proofs.LayoutLaws.{laid-out, ill-formed-refused, on-well-formed, state-back, well-formed-good}
 use Rattle.store.specs.Marks.{stored}
 use Rattle.append.specs.Heads.{headOf, headIn, HasTrack, settledResult, passAt, Ready}
 use Rattle.append.proofs.HeadLaws.{head-back, good-head}
-
--- a result known: the answer and the list after it
-pub answered : (s : State) (before : List (List ℕ)) {x : Result Outcome} (y : Result Outcome) → x ≡ y → {r : Counted} {l : List (List ℕ)}
-    → r ≡ counted s y → l ≡ listAfter y before → (r ≡ counted s x) × (l ≡ listAfter x before)
-answered s before y d e f = (e ∙ ap (counted s) (sym d), f ∙ ap (λ (z : Result Outcome). listAfter z before) (sym d))
 
 module _ (lent : ℕ) (f : Offered) (s : State) where
   pub refused-one : wellFormed s ≡ false → appendResult lent f s ≡ refused IllFormed

@@ -15,7 +15,6 @@ ghost use Rattle.buffer_state.specs.Append.{withOffset, stepOne, stepTwo, endOf
 ghost use Rattle.buffer_state.specs.Buffer.{Buffer, isSequence, trackOf, withTrack, withNeed, withEnd};
 ghost use Rattle.buffer_state.specs.Limits.{offeredTime, resultTime, lastNumber};
 ghost use Rattle.buffer_state.specs.Layout.{stateOf};
-ghost use Rattle.buffer_state.specs.Refusals.{refused};
 ghost use Rattle.buffer_state.specs.Store.{kept};
 ghost use Rattle.buffer_state.specs.WellFormed.{goodTrack};
 ghost use Rattle.store.specs.Marks.{stored, markedBy};
@@ -397,12 +396,6 @@ fn dropped_head(h: Head, n: u8, cause: u8) -> Head
     need_track(k, n, true)
 }
 
-fn wide(cause: u8) -> u32
-    ensures { λ r. ⌜ r ≡ cause ⌝ }
-{
-    cause as u32
-}
-
 // The frame is dropped: its line is the only one.
 fn drop_frame(s: State, h: Head, g: Offered, cause: u8, fates: &mut [[u32; 2]]) -> Counted
     requires { ⌜ Ready s h g × (cause ≡ dropCause (passAt s h g)) × (1 ≤ cause) × (1024 ≤ length (now fates)) ⌝ }
@@ -410,7 +403,7 @@ fn drop_frame(s: State, h: Head, g: Offered, cause: u8, fates: &mut [[u32; 2]]) 
     ensures { λ r. ⌜ now (fates .exit) ≡ listAfter (settledResult (passAt s h g)) (now (fates .entry)) ⌝ }
 {
     let t = dropped_head(h, g.track, cause);
-    let line = [t.last, wide(cause)];
+    let line = [t.last, store::wide(cause)];
     fates[0] = line;
     let left = with_head(s, t);
     Counted {
@@ -538,16 +531,6 @@ fn step_nine(h: Head, f: Offered) -> Head
     with_track(m, n, t)
 }
 
-// A refusal hands back the state as it was.
-fn refuse(s: State, why: Refusal) -> Counted
-    ensures { λ r. ⌜ r ≡ counted s (refused why) ⌝ }
-{
-    Counted {
-        answer: Count::Refused(why),
-        state: s,
-    }
-}
-
 // Steps 7 and 8: the causes by which stored frames go.
 fn taken(s: State, h: Head, g: Offered) -> [u8; 1024]
     requires { ⌜ Ready s h g ⌝ }
@@ -581,7 +564,7 @@ fn store_frame(s: State, h: Head, g: Offered, fates: &mut [[u32; 2]]) -> Counted
     let causes = taken(s, k, g);
     let kept = store::count_kept(s, causes);
     if PLACES <= kept {
-        return refuse(s, Refusal::Full);
+        return store::refuse(s, Refusal::Full);
     }
     let after = after_storing(s, k, g, causes);
     let n = store::write_lines(s, causes, fates);
@@ -632,24 +615,24 @@ pub fn append(s: State, f: Offered, fates: &mut [[u32; 2]]) -> Counted
     ensures { λ r. ⌜ now (fates .exit) ≡ listAfter (appendResult (length (now (fates .entry))) f s) (now (fates .entry)) ⌝ }
 {
     if !validation::well_formed(s) {
-        return refuse(s, Refusal::IllFormed);
+        return store::refuse(s, Refusal::IllFormed);
     }
     if fates.len() < PLACES {
-        return refuse(s, Refusal::ShortFates);
+        return store::refuse(s, Refusal::ShortFates);
     }
     if !has_track(f.track, s.ntracks) {
-        return refuse(s, Refusal::NoTrack);
+        return store::refuse(s, Refusal::NoTrack);
     }
     if !is_offerable(f) {
-        return refuse(s, Refusal::FrameLimits);
+        return store::refuse(s, Refusal::FrameLimits);
     }
     if s.last == LAST_NUMBER {
-        return refuse(s, Refusal::LastNumber);
+        return store::refuse(s, Refusal::LastNumber);
     }
     let h = head_of(s);
     let p = last_pass(h, f);
     if !p.fits {
-        return refuse(s, Refusal::ResultLimits);
+        return store::refuse(s, Refusal::ResultLimits);
     }
     settle(s, p, fates)
 }

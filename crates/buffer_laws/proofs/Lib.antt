@@ -1,5 +1,6 @@
 pub mod TestLaws
 pub mod LayoutLaws
+pub mod AnswerLaws
 pub mod RisingLaws
 pub mod RangeLaws
 pub mod CommonLaws

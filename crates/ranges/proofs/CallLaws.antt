@@ -19,7 +19,8 @@ use Rattle.buffer_state.specs.Layout.{laidOut, wellFormed}
 use Rattle.buffer_state.specs.Ranges.{Range, rangesOf, commonRangesOf, trackRanges, commonRanges}
 use Rattle.buffer_state.specs.Refusals.{Result, refused, done}
 use Rattle.buffer_laws.proofs.LayoutLaws.{laid-out, ill-formed-refused, on-well-formed}
-use Rattle.ranges.specs.Bars.{Reported, stored}
+use Rattle.store.specs.Marks.{stored}
+use Rattle.ranges.specs.Bars.{Reported}
 
 -- ---- an answer and a list from a result
 

@@ -31,7 +31,8 @@ use Rattle.buffer_laws.proofs.ReportLaws.{report-rises, common-report-rises}
 use Rattle.buffer_laws.proofs.CommonLaws.{common-cover}
 use Rattle.buffer_laws.proofs.RisingLaws.{lies-from, lies-to, lies-between}
 use Rattle.buffer_laws.proofs.TestLaws.{all-none, all-more}
-use Rattle.ranges.specs.Bars.{Reported, stored}
+use Rattle.store.specs.Marks.{stored}
+use Rattle.ranges.specs.Bars.{Reported}
 use Rattle.ranges.specs.Read.{rangesIn}
 use Rattle.ranges.proofs.CallLaws.{track-ill-formed, common-ill-formed}
 

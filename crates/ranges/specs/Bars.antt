@@ -8,21 +8,17 @@ use lib.ListN.{length, take}
 use Rattle.buffer_state.specs.Answers.{rangeCount, rangesAfter}
 use Rattle.buffer_state.specs.Refusals.{Result}
 use Rattle.buffer_state.specs.declared.Count.{Count}
-use Rattle.buffer_state.specs.declared.Frame.{Frame}
 use Rattle.buffer_state.specs.declared.State.{State}
 use Rattle.buffer_state.specs.Limits.{places}
 use Rattle.buffer_state.specs.Ranges.{Range, rising}
 use Rattle.buffer_state.specs.WellFormed.{allOf, goodFrame}
+use Rattle.store.specs.Marks.{stored}
 use Rattle.ranges.specs.declared.Span.{Span}
 use Rattle.ranges.specs.declared.Bars.{Bars}
 
 -- ---- the state's frames
 
--- those that count
-abbrev pub stored : State → List Frame
-stored s = take (s .nframes) (s .frames)
-
--- what a well-formed state says of them
+-- what a well-formed state says of those that count
 pub record Stores (s : State) : Type 0 where
   pub few : s .nframes ≤ places
   pub good : allOf (goodFrame (s .ntracks) (s .last)) (stored s) ≡ true

@@ -12,7 +12,8 @@ ghost use lib.Signed.{ltZ};
 ghost use Rattle.buffer_state.specs.Ranges.{lesser, greater, common, rangesOf, commonRangesOf};
 ghost use Rattle.buffer_state.specs.WellFormed.{allOf};
 ghost use Rattle.buffer_laws.proofs.CommonLaws.{shared};
-ghost use Rattle.ranges.specs.Bars.{rangeOf, barsOf, Shows, Reported, Meets, Stores, stored};
+ghost use Rattle.store.specs.Marks.{stored};
+ghost use Rattle.ranges.specs.Bars.{rangeOf, barsOf, Shows, Reported, Meets, Stores};
 ghost use Rattle.buffer_state.specs.Answers.{laid, trackRangesResult, commonRangesResult};
 ghost use Rattle.ranges.specs.Sweep.{timely, keyOf, trackKeys, Keyed, frameAt, stretchOf, grown, stretches, swept};
 

@@ -8,10 +8,9 @@ use lib.Ieee.{Float}
 use lib.Signed.{ltZ}
 use borrow.Author.Tests.{lt-ltb, le-ltb}
 use Rattle.seconds.specs.Seconds.{Bound, convertible, convertibleEnd, microsOf, boundOf}
-use Rattle.buffer_state.specs.declared.Counted.{Counted}
 use Rattle.buffer_state.specs.declared.Refusal.the-variants.{IllFormed, ShortFates, Seconds, Order}
 use Rattle.buffer_state.specs.declared.State.{State}
-use Rattle.buffer_state.specs.Answers.{counted, listAfter, removeResult}
+use Rattle.buffer_state.specs.Answers.{removeResult}
 use Rattle.buffer_state.specs.Append.{Outcome}
 use Rattle.buffer_state.specs.Buffer.{Buffer}
 use Rattle.buffer_state.specs.Layout.{stateOf, bufferOf, wellFormed}
@@ -79,8 +78,3 @@ module _ (lent : ℕ) (start end : Float) (s : State) where
       let judged = ap (λ (d : Bound). cond (order d) (refused Order) (done (removed z d b))) (sym (bound-back (boundOf end))) ∙ order-tests b (order (boundIn i)) z i in
       on-well-formed (remove lent start end) s h
       ∙ rw (le-ltb lent places k) (span-tests b (not (convertible start) || not (convertibleEnd end)) _ (inOrder z i) judged)
-
--- the answer and the list after the call, from the result
-pub answered : (s : State) (r q : Result Outcome) → r ≡ q → (a : Counted) (out before : List (List ℕ)) → a ≡ counted s q → out ≡ listAfter q before
-    → (a ≡ counted s r) × (out ≡ listAfter r before)
-answered s r q e a out before p l = (p ∙ ap (counted s) (sym e), l ∙ ap (λ (x : Result Outcome). listAfter x before) (sym e))

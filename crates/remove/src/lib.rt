@@ -8,7 +8,7 @@ ghost use lib.Signed.{leZ};
 ghost use Rattle.seconds.specs.Seconds.{at};
 ghost use Rattle.buffer_state.specs.Answers.{counted, listAfter, removeResult};
 ghost use Rattle.buffer_state.specs.Layout.{bufferOf, wellFormed};
-ghost use Rattle.buffer_state.specs.Refusals.{refused, done};
+ghost use Rattle.buffer_state.specs.Refusals.{done};
 ghost use Rattle.buffer_state.specs.Remove.{beforeBound, removalMarks, removed};
 ghost use Rattle.store.specs.Marks.{stored, mark, markedBy};
 ghost use Rattle.remove.specs.Edges.{boundIn, instantOf, nowhere, inOrder, spanOf, edgeFor, opensAfter, nearerEdge, FarEdges, causeTo};
@@ -290,29 +290,20 @@ fn take_out(s: State, start: i64, end: Instant, fates: &mut [[u32; 2]]) -> Count
     }
 }
 
-fn refuse(why: Refusal, s: State) -> Counted
-    ensures { λ r. ⌜ r ≡ counted s (refused why) ⌝ }
-{
-    Counted {
-        answer: Count::Refused(why),
-        state: s,
-    }
-}
-
 // Remove from one time in seconds to another: refusals 1, 2, 5, 6 in that order.
 pub fn remove(s: State, start: f64, end: f64, fates: &mut [[u32; 2]]) -> Counted
     ensures answer { λ r. ⌜ r ≡ counted s (removeResult (length (now (fates .entry))) start end s) ⌝ }
     ensures lines { λ r. ⌜ now (fates .exit) ≡ listAfter (removeResult (length (now (fates .entry))) start end s) (now (fates .entry)) ⌝ }
 {
     if !validation::well_formed(s) {
-        return refuse(Refusal::IllFormed, s);
+        return store::refuse(s, Refusal::IllFormed);
     }
     if fates.len() < 1024 {
-        return refuse(Refusal::ShortFates, s);
+        return store::refuse(s, Refusal::ShortFates);
     }
     let times = span_of(start, end);
     match times {
         Span::Over(from, to) => take_out(s, from, to, fates),
-        Span::Refused(why) => refuse(why, s),
+        Span::Refused(why) => store::refuse(s, why),
     }
 }

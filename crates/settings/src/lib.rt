@@ -74,6 +74,7 @@ fn open_window(o: Setting) -> Settings
     }
 }
 
+// Abort: refusal 1 only.
 pub fn abort(s: State) -> Changed
     ensures { λ r. ⌜ r ≡ abortAnswer s ⌝ }
 {
@@ -151,6 +152,7 @@ fn with_offset(s: State, x: f64, z: i64) -> State
     }
 }
 
+// Set the offset: refusals 1 and 5 in that order.
 pub fn set_offset(s: State, x: f64) -> Changed
     ensures { λ r. ⌜ r ≡ offsetAnswer x s ⌝ }
 {
@@ -192,6 +194,7 @@ fn start_at(s: State, x: f64, z: i64) -> Changed
     done(State { settings: new, ..s })
 }
 
+// Set the window start: refusals 1, 5 and 6 in that order.
 pub fn set_window_start(s: State, x: f64) -> Changed
     ensures { λ r. ⌜ r ≡ windowStartAnswer x s ⌝ }
 {
@@ -222,7 +225,7 @@ fn with_end(s: State, end: WindowEnd, limit: i64) -> State
 }
 
 // z is above a setting, in microseconds.
-fn above(w: Setting, x: f64, z: i64) -> bool
+fn above(w: Setting, z: i64) -> bool
     ensures { λ r. ⌜ r ≡ ltZ (w .micros) z ⌝ }
 {
     w.micros < z
@@ -234,12 +237,13 @@ fn end_at(s: State, x: f64, z: i64) -> Changed
 {
     let t = s.settings;
     let w = t.start;
-    if !above(w, x, z) {
+    if !above(w, z) {
         return refuse(Refusal::Order, s);
     }
     done(with_end(s, WindowEnd::At(x), z))
 }
 
+// Set the window end: refusals 1, 5 and 6 in that order.
 pub fn set_window_end(s: State, x: f64) -> Changed
     ensures { λ r. ⌜ r ≡ windowEndAnswer x s ⌝ }
 {

@@ -10,8 +10,12 @@ ghost use Rattle.buffer_state.specs.Store.{before, insertSorted, walk, kept, li
 ghost use Rattle.buffer_state.specs.WellFormed.{sorted};
 ghost use Rattle.buffer_state.specs.Layout.{zeroFrame};
 ghost use Rattle.store.specs.Marks.{stored, ZerosPast, holding, markedBy, causesOf, causeAfter};
-ghost use Rattle.buffer_state.specs.Answers.{written};
+ghost use Rattle.buffer_state.specs.Answers.{written, counted};
+ghost use Rattle.buffer_state.specs.Refusals.{refused};
+use buffer_state::Count;
+use buffer_state::Counted;
 use buffer_state::Frame;
+use buffer_state::Refusal;
 use buffer_state::State;
 
 // ---- store order
@@ -123,7 +127,8 @@ pub fn count_kept(s: State, marks: [u8; 1024]) -> usize
     k
 }
 
-fn wide(cause: u8) -> u32
+// A cause as a fate line holds it.
+pub fn wide(cause: u8) -> u32
     ensures { λ r. ⌜ r ≡ cause ⌝ }
 {
     cause as u32
@@ -189,4 +194,16 @@ pub fn compact(s: State, marks: [u8; 1024]) -> State
     }
     t.nframes = k;
     t
+}
+
+// ---- a refusal
+
+// A call that writes lines and is refused hands back the state as it was.
+pub fn refuse(s: State, why: Refusal) -> Counted
+    ensures { λ r. ⌜ r ≡ counted s (refused why) ⌝ }
+{
+    Counted {
+        answer: Count::Refused(why),
+        state: s,
+    }
 }

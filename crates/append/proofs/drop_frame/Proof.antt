@@ -7,9 +7,9 @@ use lib.ListN.{set}
 use Rattle.buffer_state.specs.declared.Count.the-variants as Count
 use Rattle.buffer_state.specs.Append.{Outcome, dropped}
 use Rattle.buffer_state.specs.Refusals.{done}
+use Rattle.buffer_laws.proofs.AnswerLaws.{answered}
 use Rattle.store.specs.Marks.{stored}
 use Rattle.append.specs.Heads.{passAt, dropBuffer, underHead}
-use Rattle.append.proofs.AnswerLaws.{answered}
 use Rattle.append.proofs.SettleLaws.{drop-frames, drop-result, under-head, one-line}
 use Rattle.append.proofs.StoredLaws.{stored-few, held}
 use Rattle.append.proofs.drop_frame.Statement.{statement}

@@ -14,10 +14,10 @@ use Rattle.buffer_state.specs.Append.{Pass, needing, overlapMarks}
 use Rattle.buffer_state.specs.Layout.{stateOf}
 use Rattle.buffer_state.specs.Refusals.{refused, done}
 use Rattle.buffer_state.specs.Store.{Marked, kept, linesOf}
+use Rattle.buffer_laws.proofs.AnswerLaws.{answered}
 use Rattle.store.specs.Marks.{stored, markedBy}
 use Rattle.store.proofs.MarksLaws.{good-store}
 use Rattle.append.specs.Heads.{headOf, passAt, Ready}
-use Rattle.append.proofs.AnswerLaws.{answered}
 use Rattle.append.proofs.SettleLaws.{store-full, store-result}
 use Rattle.append.proofs.StoredLaws.{needing-pass, needing-ready, stored-count}
 use Rattle.append.proofs.store_frame.Statement.{statement}

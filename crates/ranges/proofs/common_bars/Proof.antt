@@ -8,7 +8,8 @@ use Rattle.buffer_state.specs.WellFormed.{goodFrame}
 use Rattle.buffer_laws.proofs.TestLaws.{all-weaker}
 use Rattle.buffer_laws.proofs.RangeLaws.{lasts, ranges-rise}
 use Rattle.buffer_laws.proofs.CommonLaws.{common-rise}
-use Rattle.ranges.specs.Bars.{stored, barsOf, Shows}
+use Rattle.store.specs.Marks.{stored}
+use Rattle.ranges.specs.Bars.{barsOf, Shows}
 use Rattle.ranges.proofs.TimeLaws.{good-lasts}
 use Rattle.ranges.proofs.CountLaws.{upTo, up-all, first-few, next-few, common-next}
 use borrow.Author.Needs.{needs}

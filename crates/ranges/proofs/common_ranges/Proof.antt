@@ -9,7 +9,7 @@ use Rattle.buffer_state.specs.declared.Refusal.the-variants.{IllFormed, ShortRa
 use Rattle.buffer_state.specs.Answers.{laid}
 use Rattle.buffer_state.specs.Layout.{wellFormed}
 use Rattle.buffer_state.specs.Ranges.{Range, commonRangesOf}
-use Rattle.ranges.specs.Bars.{stored}
+use Rattle.store.specs.Marks.{stored}
 use Rattle.ranges.proofs.StoresLaws.{well-formed-stores, well-formed-tracks}
 use Rattle.ranges.proofs.CallLaws.{refused-reported, done-reported, common-ill-formed, common-short, common-reported}
 use borrow.Author.Needs.{needs}

@@ -4,7 +4,8 @@ use Prim.Native.Nat.{_≤_}
 use native.Mathlib.Omega.{arith}
 use lib.ListN.{length, take, length-take}
 use Rattle.sorting.specs.Sorting.{occurrences}
-use Rattle.ranges.specs.Bars.{stored, Shows}
+use Rattle.store.specs.Marks.{stored}
+use Rattle.ranges.specs.Bars.{Shows}
 use Rattle.laws.proofs.ListLaws.{mapped-length}
 use Rattle.ranges.proofs.KeyLaws.{keys-few, sorted-timely, swept-ranges}
 use Rattle.ranges.proofs.track_bars.Statement.{statement}

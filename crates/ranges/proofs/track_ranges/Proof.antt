@@ -9,7 +9,7 @@ use Rattle.buffer_state.specs.declared.Refusal.the-variants.{IllFormed, NoTrack
 use Rattle.buffer_state.specs.Answers.{laid}
 use Rattle.buffer_state.specs.Layout.{wellFormed}
 use Rattle.buffer_state.specs.Ranges.{Range, rangesOf}
-use Rattle.ranges.specs.Bars.{stored}
+use Rattle.store.specs.Marks.{stored}
 use Rattle.ranges.proofs.StoresLaws.{well-formed-stores}
 use Rattle.ranges.proofs.CallLaws.{refused-reported, done-reported, track-ill-formed, track-under-one, track-past-last, track-short, track-reported}
 use borrow.Author.Needs.{needs}

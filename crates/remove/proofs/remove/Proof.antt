@@ -13,8 +13,9 @@ use Rattle.buffer_state.specs.Append.{Outcome}
 use Rattle.buffer_state.specs.Layout.{wellFormed, bufferOf}
 use Rattle.buffer_state.specs.Refusals.{Result, done}
 use Rattle.buffer_state.specs.Remove.{removed}
+use Rattle.buffer_laws.proofs.AnswerLaws.{answered}
 use Rattle.remove.specs.Edges.{boundIn}
-use Rattle.remove.proofs.CallLaws.{overSpan, ill-formed, short-list, by-span, answered}
+use Rattle.remove.proofs.CallLaws.{overSpan, ill-formed, short-list, by-span}
 use Rattle.remove.proofs.remove.Statement.{statement}
 use Rattle.remove.proofs.remove.Tie as tie
 
@@ -29,7 +30,7 @@ returns c =
     let k = c .before .before in
     let a = k .before .args in
     let e : wellFormed (a .s) ≡ false = sym (k .well-formed .ensures) ∙ not-true _ (c .before .if1 .taken) in
-    answered (a .s) _ _ (ill-formed _ (a .start) (a .end) (a .s) e) _ _ (a .fates .now) (c .refuse .ensures) refl
+    answered (a .s) (a .fates .now) _ (ill-formed _ (a .start) (a .end) (a .s) e) (c .refuse .ensures) refl
 
 -- past the first test the state is well-formed
 held : (c : tie.Else1) → wellFormed (c .before .before .args .s) ≡ true
@@ -42,7 +43,7 @@ returns-2 : tie.Need-returns-2
 returns-2 c =
     let k = c .before .before in
     let a = k .before .before .args in
-    answered (a .s) _ _ (short-list _ (a .start) (a .end) (a .s) (held k) (c .before .if2 .taken)) _ _ (a .fates .now) (c .refuse2 .ensures) refl
+    answered (a .s) (a .fates .now) _ (short-list _ (a .start) (a .end) (a .s) (held k) (c .before .if2 .taken)) (c .refuse2 .ensures) refl
 
 span-of-requires : tie.Need-span-of-requires
 span-of-requires c κs = search needs
@@ -81,7 +82,7 @@ returns-3 c =
     let to = t .before .times .given .0 .1 .0 in
     let outcome : ℤ → Result Outcome = λ z. done (removed z (boundIn to) (bufferOf (a .s))) in
     let fits : SFits w64 from = record { sfits = t .known-told .given .0 .1 } in
-    answered (a .s) _ (outcome from) (spanned k ∙ ap (overSpan (bufferOf (a .s))) (t .before .times .given .1)) _ _ (a .fates .now)
+    answered (a .s) (a .fates .now) (outcome from) (spanned k ∙ ap (overSpan (bufferOf (a .s))) (t .before .times .given .1))
     (told from fits (λ z. counted (a .s) (outcome z)) (r .take-out .ensures .0))
     (told from fits (λ z. listAfter (outcome z) (a .fates .now)) (r .take-out .ensures .1))
 
@@ -90,7 +91,7 @@ returns-4 c =
     let t = c .before .before in
     let k = t .before .before in
     let a = k .before .before .before .before .args in
-    answered (a .s) _ _ (spanned k ∙ ap (overSpan (bufferOf (a .s))) (t .times2 .given .1)) _ _ (a .fates .now) (c .refuse3 .ensures) refl
+    answered (a .s) (a .fates .now) _ (spanned k ∙ ap (overSpan (bufferOf (a .s))) (t .times2 .given .1)) (c .refuse3 .ensures) refl
 
 pub remove-spec : {M : Type 1} → statement M
 remove-spec =
