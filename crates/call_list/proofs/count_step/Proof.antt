@@ -1,0 +1,50 @@
+-- By cases of the answer.
+use mathlib.Core.Path.{_≡_, refl, sym, ap, _∙_}
+use Prim.Native.Nat.{ℕ}
+use Rattle.buffer_state.specs.declared.Count.{Count}
+use Rattle.buffer_state.specs.declared.Count.the-variants.{Done, Refused}
+use Rattle.call_list.specs.Replies.{plainStep, countStep}
+use borrow.Author.Needs.{needs}
+use Rattle.call_list.proofs.count_step.Statement.{statement}
+use Rattle.call_list.proofs.count_step.Tie as tie
+
+enum-known-answer : tie.Need-enum-known-answer
+enum-known-answer c = search needs
+
+plain-step-requires : tie.Need-plain-step-requires
+plain-step-requires c κs = search needs
+
+enum-known-answer-2 : tie.Need-enum-known-answer-2
+enum-known-answer-2 c = search needs
+
+number-of-requires : tie.Need-number-of-requires
+number-of-requires c κs = search needs
+
+plain-step-requires-2 : tie.Need-plain-step-requires-2
+plain-step-requires-2 c κs = search needs
+
+returns : tie.Need-returns
+returns c =
+    let k = c .before in
+    let s = k .before .before .before in
+    let e : Done (k .before .answer .given .0 .0) ≡ s .args .answer = sym (k .before .answer .given .1) in
+    c .plain-step .ensures ∙ ap (λ (a : Count). countStep a (s .args .s)) e
+
+returns-2 : tie.Need-returns-2
+returns-2 c =
+    let k = c .before .before in
+    let s = k .before .before .before in
+    let e : Refused (k .before .answer2 .given .0 .0) ≡ s .args .answer = sym (k .before .answer2 .given .1) in
+    c .plain-step2 .ensures ∙ ap (λ (n : ℕ). plainStep n 0 (s .args .s)) (c .before .number-of .ensures) ∙ ap (λ (a : Count). countStep a (s .args .s)) e
+
+pub count-step-spec : {M : Type 1} → statement M
+count-step-spec =
+    tie.close
+    (tie.spec
+    enum-known-answer
+    plain-step-requires
+    enum-known-answer-2
+    number-of-requires
+    plain-step-requires-2
+    returns
+    returns-2)

@@ -1,0 +1,89 @@
+-- By the kind of call: what the part for that kind says.
+use Rattle.call_list.proofs.ReplyLaws.{made-lines, made-change, made-reading, made-ranges}
+use borrow.Author.Needs.{needs}
+use Rattle.call_list.proofs.make_call.Statement.{statement}
+use Rattle.call_list.proofs.make_call.Tie as tie
+
+array-read-kind : tie.Need-array-read-kind
+array-read-kind c = search needs
+
+lines-step-requires : tie.Need-lines-step-requires
+lines-step-requires c κs = search needs
+
+same-length : tie.Need-same-length
+same-length c = search needs
+
+returns : tie.Need-returns
+returns c =
+    let l = c .before in
+    let t = l .before .before in
+    let a = t .before .args in
+    made-lines (a .s) (a .t2) (a .times) (a .t4) (a .fates .now) (l .lines-step .last .1 .1 .1 .1 .0) (a .list .now) (a .list .now)
+    (l .lines-step .result) (t .if1 .taken) (l .lines-step .ensures)
+
+array-read-changed : tie.Need-array-read-changed
+array-read-changed c = search needs
+
+array-read-changed-2 : tie.Need-array-read-changed-2
+array-read-changed-2 c = search needs
+
+changed-requires : tie.Need-changed-requires
+changed-requires c κs = search needs
+
+change-step-requires : tie.Need-change-step-requires
+change-step-requires c κs = search needs
+
+returns-2 : tie.Need-returns-2
+returns-2 c =
+    let k = c .before .before in
+    let t = k .before in
+    let a = t .before .before .args in
+    made-change (a .s) (a .t2) (a .times) (a .t4) (a .fates .now) (a .fates .now) (a .list .now) (a .list .now)
+    (k .changed .result) (c .change-step .result) (t .before .if1 .left) (t .if2 .taken) (c .change-step .ensures) (k .changed .ensures)
+
+read-settings-requires : tie.Need-read-settings-requires
+read-settings-requires c κs = search needs
+
+read-step-requires : tie.Need-read-step-requires
+read-step-requires c κs = search needs
+
+returns-3 : tie.Need-returns-3
+returns-3 c =
+    let k = c .before in
+    let a = k .before .before .before .before .args in
+    made-reading (a .s) (a .t2) (a .times) (a .t4) (a .fates .now) (a .fates .now) (a .list .now) (a .list .now)
+    (k .read-settings .result) (c .read-step .result) (k .before .if3 .taken) (k .read-settings .ensures) (c .read-step .ensures)
+
+ranges-step-requires : tie.Need-ranges-step-requires
+ranges-step-requires c κs = search needs
+
+same-length-2 : tie.Need-same-length-2
+same-length-2 c = search needs
+
+returns-4 : tie.Need-returns-4
+returns-4 c =
+    let l = c .before in
+    let e = l .before .before in
+    let a = e .before .before .before .args in
+    made-ranges (a .s) (a .t2) (a .times) (a .t4) (a .fates .now) (a .fates .now) (a .list .now) (l .ranges-step .last .1 .1 .0)
+    (l .ranges-step .result) (e .before .if2 .left) (e .if3 .left) (l .ranges-step .ensures)
+
+pub make-call-spec : {M : Type 1} → statement M
+make-call-spec =
+    tie.close
+    (tie.spec
+    array-read-kind
+    lines-step-requires
+    same-length
+    returns
+    array-read-changed
+    array-read-changed-2
+    changed-requires
+    change-step-requires
+    returns-2
+    read-settings-requires
+    read-step-requires
+    returns-3
+    ranges-step-requires
+    same-length-2
+    returns-4)

@@ -1,0 +1,13 @@
+-- By cases of the flag.
+use borrow.Author.Tests.{eq-eqb, ne-eqb}
+use Rattle.call_list.proofs.mode_of.Statement.{statement}
+use Rattle.call_list.proofs.mode_of.Tie as tie
+
+returns : tie.Need-returns
+returns c = rw (eq-eqb (c .before .args .n) 0 (c .if1 .taken))
+
+returns-2 : tie.Need-returns-2
+returns-2 c = rw (ne-eqb (c .before .args .n) 0 (c .if1 .left))
+
+pub mode-of-spec : {M : Type 1} → statement M
+mode-of-spec = tie.close (tie.spec returns returns-2)

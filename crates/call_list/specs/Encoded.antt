@@ -1,0 +1,58 @@
+-- A call as numbers. A row of a list of calls: kind, track, flag, duration, places lent; beside it, presentation and decode timestamp,
+-- and two doubles.
+use mathlib.Core.Bool.{Bool, not, cond}
+use mathlib.Core.List.{List}
+use Prim.Native.Nat.{ℕ}
+use lib.Dec.{leb, ltb, eqb}
+use lib.IntN.{ℤ, pos}
+use lib.Ieee.{Float, nan}
+use lib.ListN.{getD}
+use Rattle.buffer_state.specs.declared.Mode.{Mode}
+use Rattle.buffer_state.specs.declared.Mode.the-variants.{Segments, Sequence}
+use Rattle.buffer_state.specs.declared.Offered.{Offered}
+use Rattle.buffer_state.specs.Run.{Call, appendCall, removeCall, abortCall, modeCall, offsetCall, windowStartCall, windowEndCall, readCall, rangesCall, commonCall}
+
+-- a track's number fits a byte; no buffer has a track 255
+abbrev pub trackOf : ℕ → ℕ
+trackOf n = cond (leb n 255) n 255
+
+abbrev pub flagOf : ℕ → Bool
+flagOf n = not (eqb n 0)
+
+abbrev pub modeOf : ℕ → Mode
+modeOf n = cond (eqb n 0) Segments Sequence
+
+abbrev pub offeredOf : List ℕ → List ℤ → Offered
+offeredOf row times = record {
+  track = trackOf (getD row 1 0);
+  flagged = flagOf (getD row 2 0);
+  duration = getD row 3 0;
+  pts = getD times 0 (pos 0);
+  dts = getD times 1 (pos 0);
+}
+
+-- 0 append, 1 remove: calls that are lent a fate list
+abbrev pub linesCall : List ℕ → List ℤ → List Float → ℕ → Call
+linesCall row times seconds lent =
+    cond (eqb (getD row 0 0) 0) (appendCall lent (offeredOf row times)) (removeCall lent (getD seconds 0 nan) (getD seconds 1 nan))
+
+-- 2 abort, 3 the mode, 4 the offset, 5 the window start, 6 the window end
+abbrev pub settingCall : ℕ → ℕ → Float → Call
+settingCall kind flag x =
+    cond (eqb kind 2) abortCall
+    (cond (eqb kind 3) (modeCall (modeOf flag))
+    (cond (eqb kind 4) (offsetCall x)
+    (cond (eqb kind 5) (windowStartCall x)
+    (windowEndCall x))))
+
+-- 8 a track's ranges, 9 the common ranges: calls that are lent a range list
+abbrev pub rangesOf : List ℕ → ℕ → Call
+rangesOf row lent = cond (eqb (getD row 0 0) 8) (rangesCall lent (trackOf (getD row 1 0))) (commonCall lent)
+
+-- 7 reading the settings
+abbrev pub callOf : List ℕ → List ℤ → List Float → ℕ → ℕ → Call
+callOf row times seconds lines ranges =
+    let kind = getD row 0 0 in
+    cond (ltb kind 2) (linesCall row times seconds lines)
+    (cond (ltb kind 7) (settingCall kind (getD row 2 0) (getD seconds 0 nan))
+    (cond (eqb kind 7) readCall (rangesOf row ranges)))
