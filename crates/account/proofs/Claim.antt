@@ -33,7 +33,7 @@ use Rattle.buffer_laws.proofs.RunLaws.{reply-lawful, run-lawful}
 use Rattle.buffer_laws.proofs.SettingLaws.{created-good}
 use Rattle.buffer_laws.proofs.TestLaws.{all-none}
 use Rattle.account.specs.Made.{Given, append, remove, abort, setMode, setOffset, setWindowStart, setWindowEnd, readSettings, trackRanges, commonRanges, asked, Back, Made, calls, entries, AllKept}
-use Rattle.account.specs.History.{From, none, by-append, by-remove, by-abort, by-mode, by-offset, by-window-start, by-window-end, by-reading, by-track-ranges, by-common-ranges, History, from, Claim, Happens}
+use Rattle.account.specs.History.{From, none, by-append, by-remove, by-abort, by-mode, by-offset, by-window-start, by-window-end, by-reading, by-track-ranges, by-common-ranges, History, from, Account, Claim, Happens}
 use Rattle.account.proofs.StepLaws.{Agrees, append-agrees, remove-agrees, abort-agrees, mode-agrees, offset-agrees, window-start-agrees, window-end-agrees, reading-agrees, track-ranges-agrees, common-ranges-agrees}
 use Rattle.settings.proofs.create.Reads as Create
 use Rattle.settings.proofs.abort.Reads as Abort
@@ -115,14 +115,14 @@ isDone : Code.Answer → Bool
 isDone Done = true
 isDone (Refused why) = false
 
-created : (kinds : List ℕ) → changed zeroState (create kinds) .answer ≡ Done → create kinds ≡ done (fresh kinds)
+pub created : (kinds : List ℕ) → changed zeroState (create kinds) .answer ≡ Done → create kinds ≡ done (fresh kinds)
 unfolding create isDone
 created kinds =
     by-test (λ (x : Result Buffer). changed zeroState x .answer ≡ Done → x ≡ done (fresh kinds))
     (eqb (length kinds) 0 || (ltb mostTracks (length kinds) || not (allOf knownKind kinds)))
     (λ _ e. clash (sym (ap isDone e))) (λ _ e. refl)
 
-fresh-good : (kinds : List ℕ) → create kinds ≡ done (fresh kinds) → Good (fresh kinds)
+pub fresh-good : (kinds : List ℕ) → create kinds ≡ done (fresh kinds) → Good (fresh kinds)
 fresh-good kinds made = rw made at (created-good kinds)
 
 -- ---- the first n of a run
@@ -138,16 +138,27 @@ take-run b zero cs = refl
 take-run b (suc n) [] = refl
 take-run b (suc n) (c ∷ cs) = λ i. record { call = c; result = replyTo c b .result } ∷ take-run (replyTo c b .after) n cs i
 
+-- ---- the account of the plain run
+
+module _ (kinds : List ℕ) (made : create kinds ≡ done (fresh kinds)) (cs : List Call) where
+  given-last : lastOf (fresh kinds) cs .last ≡ length (offers (run (fresh kinds) cs))
+  given-last = run-lawful (fresh kinds) cs .last ∙ zero-add _
+
+  -- the last state holds the run's last buffer
+  held : bufferOf (stateOf (lastOf (fresh kinds) cs)) ≡ lastOf (fresh kinds) cs
+  held = buffer-back (lastOf (fresh kinds) cs)
+
+  pub run-accounts : Account (run (fresh kinds) cs) (stateOf (lastOf (fresh kinds) cs))
+  run-accounts = record {
+    last = given-last;
+    placed = rw (ap (λ (b : Buffer). b .frames) held) (run-lawful (fresh kinds) cs .placed (fresh-good kinds made) [] refl (all-none (onOffered [])));
+    found = λ k. rw (held, ← given-last) (found-once kinds cs k);
+    balance = λ track. rw held (tracks-balance kinds cs track made);
+  }
+
 -- ---- THE THEOREM
 
 module _ (kinds : List ℕ) (made : create kinds ≡ done (fresh kinds)) (ms : List Made) (t : State) (p : Plain (fresh kinds) ms t) where
-  -- the last state holds the run's last buffer
-  held : bufferOf t ≡ lastOf (fresh kinds) (calls ms)
-  held = ap bufferOf (p .state) ∙ buffer-back (lastOf (fresh kinds) (calls ms))
-
-  law : (cs : List Call) → lastOf (fresh kinds) cs .last ≡ length (offers (run (fresh kinds) cs))
-  law cs = run-lawful (fresh kinds) cs .last ∙ zero-add _
-
   same-first : (n : ℕ) → entries (take n ms) ≡ run (fresh kinds) (calls (take n ms))
   same-first n =
       take-map _ n ms ∙ ap (take n) (p .results) ∙ sym (take-run (fresh kinds) n (calls ms))
@@ -157,10 +168,8 @@ module _ (kinds : List ℕ) (made : create kinds ≡ done (fresh kinds)) (ms : L
   claimed = record {
     results = p .results;
     state = p .state;
-    numbered = λ n. rw (same-first n) (law (calls (take n ms)));
-    placed = rw (p .results, ap (λ (b : Buffer). b .frames) held) (run-lawful (fresh kinds) (calls ms) .placed (fresh-good kinds made) [] refl (all-none (onOffered [])));
-    found = λ k. rw (p .results, held, ← law (calls ms)) (found-once kinds (calls ms) k);
-    balance = λ track. rw (p .results, held) (tracks-balance kinds (calls ms) track made);
+    numbered = λ n. rw (same-first n) (given-last kinds made (calls (take n ms)));
+    account = rw (p .results, p .state) (run-accounts kinds made (calls ms));
     kept = p .kept;
   }
 

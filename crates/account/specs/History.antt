@@ -20,7 +20,7 @@ use Rattle.buffer_state.specs.declared.Read.{Read}
 use Rattle.buffer_state.specs.declared.State.{State}
 use Rattle.buffer_state.specs.Buffer.{fresh}
 use Rattle.buffer_state.specs.Layout.{stateOf, bufferOf}
-use Rattle.buffer_state.specs.Run.{run, lastOf, offers, foundStored, foundTold, offeredOn, storedOn, droppedOn, removedOn, onOffered}
+use Rattle.buffer_state.specs.Run.{Entry, run, lastOf, offers, foundStored, foundTold, offeredOn, storedOn, droppedOn, removedOn, onOffered}
 use Rattle.buffer_state.specs.WellFormed.{allOf}
 use Rattle.account.specs.Made.{Given, append, remove, abort, setMode, setOffset, setWindowStart, setWindowEnd, readSettings, trackRanges, commonRanges, Made, calls, entries, AllKept}
 use Rattle.settings.proofs.create.Reads as Create
@@ -87,20 +87,26 @@ pub data History : List ℕ → List Made → State → Type 0 where
       → From (r .state) ms t
       → History (now kinds) ms t
 
+-- What holds of calls with their results, and of the state after them.
+pub record Account (es : List Entry) (t : State) : Type 0 where
+  -- the last number given is how many frames were offered and taken
+  pub last : t .last ≡ length (offers es)
+  -- a stored frame stands on the track that the append of its number named
+  pub placed : allOf (onOffered (offers es)) (bufferOf t .frames) ≡ true
+  -- each number given is found exactly once, on one stored frame or on one line handed out, and no other number is found
+  pub found : (k : ℕ) → foundStored k (bufferOf t) + foundTold k es ≡ cond (leb 1 k && leb k (length (offers es))) 1 0
+  -- on each track offered equals stored plus dropped plus removed
+  pub balance : (track : ℕ) → offeredOn track es ≡ storedOn track (bufferOf t) + (droppedOn track es + removedOn track es)
+
 -- THE CLAIM about a history: kinds, calls made, last state. The plain run is fed the kinds and the calls' arguments alone.
 pub record Claim (kinds : List ℕ) (ms : List Made) (t : State) : Type 0 where
   -- every refusal, every fate list with its causes, every range list and every reading is the run's,
   pub results : entries ms ≡ run (fresh kinds) (calls ms)
   -- and so is the last state
   pub state : t ≡ stateOf (lastOf (fresh kinds) (calls ms))
-  -- the frames offered and taken are numbered 1, 2, 3 and so on: after any n calls the last number given is how many there were,
+  -- the frames offered and taken are numbered 1, 2, 3 and so on: after any n calls the last number given is how many there were
   pub numbered : (n : ℕ) → lastOf (fresh kinds) (calls (take n ms)) .last ≡ length (offers (entries (take n ms)))
-  -- and a stored frame stands on the track that the append of its number named
-  pub placed : allOf (onOffered (offers (entries ms))) (bufferOf t .frames) ≡ true
-  -- each of these numbers is found exactly once, on one stored frame or on one line handed out, and no other number is found
-  pub found : (k : ℕ) → foundStored k (bufferOf t) + foundTold k (entries ms) ≡ cond (leb 1 k && leb k (length (offers (entries ms)))) 1 0
-  -- on each track offered equals stored plus dropped plus removed
-  pub balance : (track : ℕ) → offeredOn track (entries ms) ≡ storedOn track (bufferOf t) + (droppedOn track (entries ms) + removedOn track (entries ms))
+  pub account : Account (entries ms) t
   -- past the count, and after a refusal everywhere, a lent list holds what it held
   pub kept : AllKept ms
 

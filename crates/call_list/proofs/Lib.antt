@@ -1,1 +1,6 @@
 pub mod ReplyLaws
+pub mod PartLaws
+pub mod ShapeLaws
+pub mod ListedLaws
+pub mod LoopLaws
+pub mod ClaimLaws

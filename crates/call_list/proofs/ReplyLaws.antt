@@ -33,7 +33,7 @@ use Rattle.buffer_state.specs.Settings.{aborted, modeSet, offsetSet, windowStar
 use Rattle.buffer_laws.proofs.LayoutLaws.{ill-formed-refused, on-well-formed, state-back}
 use Rattle.ranges.specs.Bars.{Reported}
 use Rattle.call_list.specs.declared.Step.{Step}
-use Rattle.call_list.specs.Encoded.{trackOf, modeOf, offeredOf, linesCall, settingCall, rangesOf, callOf}
+use Rattle.call_list.specs.Encoded.{trackOf, modeOf, offeredOf, linesCall, settingCall, rangesCallOf, callOf}
 use Rattle.call_list.specs.Replies.{Replied, laidReply, replyOn, numberOf, sizeOf, doublesIn, stepOf, rangesIn, fatesAfter, spansAfter, Stepped, Lined, Spanned, Quiet, plainStep, changeStep, countStep, readStep}
 
 -- by cases of whether the state is well-formed
@@ -143,12 +143,12 @@ module _ (s : State) (row : List ℕ) (times : List ℤ) (seconds : List Float) 
 -- one that is lent a range list
 module _ (s : State) (row : List ℕ) (lent after : List (List ℤ)) (r : Count) (t : Step) (told : t ≡ countStep r s) where
   pub track-spanned : (track : ℕ) → getD row 0 0 ≡ 8 → track ≡ trackOf (getD row 1 0)
-      → Reported r after (trackRangesResult (length lent) track s) lent → Spanned (replyOn (rangesOf row (length lent)) s) t lent after
+      → Reported r after (trackRangesResult (length lent) track s) lent → Spanned (replyOn (rangesCallOf row (length lent)) s) t lent after
   track-spanned track kind e h =
-      let c : rangesOf row (length lent) ≡ rangesCall (length lent) track = rw (eq-eqb _ 8 kind, e) in
+      let c : rangesCallOf row (length lent) ≡ rangesCall (length lent) track = rw (eq-eqb _ 8 kind, e) in
       rw (c, told, h .answer, h .list) (ranges-reply s lent (length lent) track)
 
-  pub common-spanned : (getD row 0 0 ≡ 8 → ⊥) → Reported r after (commonRangesResult (length lent) s) lent → Spanned (replyOn (rangesOf row (length lent)) s) t lent after
+  pub common-spanned : (getD row 0 0 ≡ 8 → ⊥) → Reported r after (commonRangesResult (length lent) s) lent → Spanned (replyOn (rangesCallOf row (length lent)) s) t lent after
   common-spanned kind h = rw (ne-eqb (getD row 0 0) 8 kind, told, h .answer, h .list) (common-reply s lent (length lent))
 
 -- abort and the setters
@@ -193,5 +193,5 @@ module _ (s : State) (row : List ℕ) (times : List ℤ) (seconds : List Float) 
   pub made-reading : (r : Read) (t : Step) → getD row 0 0 ≡ 7 → r ≡ settingsAnswer s → t ≡ readStep r s → Makes t lines₀ spans₀
   made-reading r t k e f = rw (k, f, e) (read-reply s lines₀ spans₀)
 
-  pub made-ranges : (t : Step) → 7 ≤ getD row 0 0 → (getD row 0 0 ≡ 7 → ⊥) → Spanned (replyOn (rangesOf row (length spans₀)) s) t spans₀ spans → Makes t lines₀ spans
+  pub made-ranges : (t : Step) → 7 ≤ getD row 0 0 → (getD row 0 0 ≡ 7 → ⊥) → Spanned (replyOn (rangesCallOf row (length spans₀)) s) t spans₀ spans → Makes t lines₀ spans
   made-ranges t k l h = rw (le-ltb (getD row 0 0) 2 (omega arith), le-ltb (getD row 0 0) 7 k, ne-eqb (getD row 0 0) 7 l) (h lines₀)

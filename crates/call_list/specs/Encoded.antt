@@ -46,8 +46,8 @@ settingCall kind flag x =
     (windowEndCall x))))
 
 -- 8 a track's ranges, 9 the common ranges: calls that are lent a range list
-abbrev pub rangesOf : List ℕ → ℕ → Call
-rangesOf row lent = cond (eqb (getD row 0 0) 8) (rangesCall lent (trackOf (getD row 1 0))) (commonCall lent)
+abbrev pub rangesCallOf : List ℕ → ℕ → Call
+rangesCallOf row lent = cond (eqb (getD row 0 0) 8) (rangesCall lent (trackOf (getD row 1 0))) (commonCall lent)
 
 -- 7 reading the settings
 abbrev pub callOf : List ℕ → List ℤ → List Float → ℕ → ℕ → Call
@@ -55,4 +55,17 @@ callOf row times seconds lines ranges =
     let kind = getD row 0 0 in
     cond (ltb kind 2) (linesCall row times seconds lines)
     (cond (ltb kind 7) (settingCall kind (getD row 2 0) (getD seconds 0 nan))
-    (cond (eqb kind 7) readCall (rangesOf row ranges)))
+    (cond (eqb kind 7) readCall (rangesCallOf row ranges)))
+
+-- ---- places lent
+
+-- of a number that a call of this kind asks for or gives, how much is fate lines and how much is ranges
+abbrev pub ofLines : ℕ → ℕ → ℕ
+ofLines kind n = cond (ltb kind 2) n 0
+
+abbrev pub ofRanges : ℕ → ℕ → ℕ
+ofRanges kind n = cond (ltb kind 8) 0 n
+
+-- the call of a row, lent as many places as the row says
+abbrev pub rowCall : List ℕ → List ℤ → List Float → Call
+rowCall row times seconds = callOf row times seconds (getD row 4 0) (getD row 4 0)

@@ -2,10 +2,10 @@
 use mathlib.Core.Path.{_≡_}
 use mathlib.Core.Bool.{cond}
 use mathlib.Core.List.{List, [], _∷_, _++_}
-use Prim.Native.Nat.{ℕ}
+use Prim.Native.Nat.{ℕ, _+_}
 use lib.Ieee.{Float}
 use lib.IntN.{ℤ}
-use lib.ListN.{length, drop}
+use lib.ListN.{length, take, drop}
 use Rattle.seconds.specs.Seconds.{zeroSeconds}
 use Rattle.buffer_state.specs.declared.Answer as Code
 use Rattle.buffer_state.specs.declared.Answer.the-variants as Said
@@ -107,6 +107,17 @@ Spanned r t spans₀ spans = (ls : List (List ℕ)) → Stepped r t ls ls spans�
 
 abbrev pub Quiet : Replied → Step → Type 0
 Quiet r t = (ls : List (List ℕ)) (rs : List (List ℤ)) → Stepped r t ls ls rs rs
+
+-- ---- a call that is lent a part of a longer list
+
+-- new elements written from a place on
+abbrev pub writtenAt : {A : Type 0} → List A → ℕ → List A → List A
+writtenAt before at new = take at before ++ (new ++ drop (at + length new) before)
+
+pub record CalledAt (r : Replied) (t : Step) (lines₀ : List (List ℕ)) (at : ℕ) (lines : List (List ℕ)) (spans₀ : List (List ℤ)) (placed : ℕ) (spans : List (List ℤ)) : Type 0 where
+  pub step : t ≡ stepOf r
+  pub fates : lines ≡ writtenAt lines₀ at (written (linesIn (r .result)))
+  pub ranges : spans ≡ writtenAt spans₀ placed (laid (rangesIn (r .result)))
 
 -- ---- the same from the code's answers
 

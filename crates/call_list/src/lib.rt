@@ -8,10 +8,17 @@ use buffer_state::Read;
 use buffer_state::Refusal;
 use buffer_state::State;
 ghost use mathlib.Core.Path.{_≡_};
-ghost use lib.ListN.{length};
+ghost use mathlib.Core.Bool.{true};
+ghost use Prim.Native.Nat.{_+_, _≤_, _<_};
+ghost use lib.ListN.{length, getD};
 ghost use Rattle.buffer_state.specs.Refusals.{refusalNumber};
-ghost use Rattle.call_list.specs.Encoded.{trackOf, flagOf, modeOf, offeredOf, linesCall, settingCall, rangesOf, callOf};
-ghost use Rattle.call_list.specs.Replies.{replyOn, Stepped, Lined, Spanned, Quiet, plainStep, changeStep, countStep, readStep};
+ghost use Rattle.call_list.specs.Encoded.{trackOf, flagOf, modeOf, offeredOf, linesCall, settingCall, rangesCallOf, callOf, ofLines, ofRanges, rowCall};
+ghost use Rattle.buffer_state.specs.Layout.{bufferOf};
+ghost use Rattle.buffer_state.specs.Run.{total};
+ghost use Rattle.buffer_state.specs.WellFormed.{allOf};
+ghost use lib.Dec.{leb};
+ghost use Rattle.call_list.specs.Listed.{noted, listsOf, longEnough, rowFits, rangesOfRow, fits, fitsIn, endingFor, noRun, Ends, encodedCalls, Begun, Replayed};
+ghost use Rattle.call_list.specs.Replies.{replyOn, Stepped, writtenAt, CalledAt, Lined, Spanned, Quiet, plainStep, changeStep, countStep, readStep};
 
 // What one call gave: its refusal number or 0; how many lines, ranges or doubles; the doubles of a reading; the state.
 pub struct Step {
@@ -171,7 +178,7 @@ fn changed(s: State, kind: u32, flag: u32, x: f64) -> Changed
 }
 
 fn ranges_step(s: State, row: [u32; 5], list: &mut [[i64; 2]]) -> Step
-    ensures { λ r. ⌜ Spanned (replyOn (rangesOf row (length (now (list .entry)))) s) r (now (list .entry)) (now (list .exit)) ⌝ }
+    ensures { λ r. ⌜ Spanned (replyOn (rangesCallOf row (length (now (list .entry)))) s) r (now (list .entry)) (now (list .exit)) ⌝ }
 {
     if row[0] == 8 {
         let track = track_of(row[1]);
@@ -207,4 +214,267 @@ pub fn make_call(
         return read_step(settings::read_settings(s), s);
     }
     ranges_step(s, row, list)
+}
+
+// ---- a list of calls
+
+// How a run ends: it was run; a list is too short or a call is of no kind; the creation was refused.
+pub enum Ending {
+    Done,
+    Unfit,
+    Refused(Refusal),
+}
+
+// How many places of the lists of lines, ranges and readings were written, and the last state.
+pub struct Ran {
+    pub ending: Ending,
+    pub lines: usize,
+    pub ranges: usize,
+    pub readings: usize,
+    pub state: State,
+}
+
+fn wide(n: u32) -> usize
+    ensures { λ r. ⌜ r ≡ n ⌝ }
+{
+    n as usize
+}
+
+// Of a number that a call of this kind asks for or gives: how much of it is fate lines, how much is ranges.
+fn of_lines(kind: u32, n: usize) -> usize
+    ensures { λ r. ⌜ r ≡ ofLines kind n ⌝ }
+{
+    if kind < 2 {
+        return n;
+    }
+    0
+}
+
+fn of_ranges(kind: u32, n: usize) -> usize
+    ensures { λ r. ⌜ r ≡ ofRanges kind n ⌝ }
+{
+    if kind < 8 {
+        return 0;
+    }
+    n
+}
+
+// One call of the list, lent the places from `at` and from `placed` on.
+fn call_at(
+    s: State,
+    row: [u32; 5],
+    times: [i64; 2],
+    seconds: [f64; 2],
+    lines: &mut [[u32; 2]],
+    at: usize,
+    list: &mut [[i64; 2]],
+    placed: usize,
+) -> Step
+    requires { ⌜ (at + ofLines (getD row 0 0) (getD row 4 0) ≤ length (now lines)) × (placed + ofRanges (getD row 0 0) (getD row 4 0) ≤ length (now list)) ⌝ }
+    ensures { λ r. ⌜ CalledAt (replyOn (rowCall row times seconds) s) r (now (lines .entry)) at (now (lines .exit)) (now (list .entry)) placed (now (list .exit)) ⌝ }
+{
+    let kind = row[0];
+    let places = wide(row[4]);
+    let to = at + of_lines(kind, places);
+    let end = placed + of_ranges(kind, places);
+    make_call(
+        s,
+        row,
+        times,
+        seconds,
+        &mut lines[at..to],
+        &mut list[placed..end],
+    )
+}
+
+// Where the call is a reading, its doubles, at the next place.
+fn note_reading(kind: u32, doubles: [f64; 3], readings: &mut [[f64; 3]], at: usize) -> usize
+    requires { ⌜ at < length (now readings) ⌝ }
+    ensures count { λ r. ⌜ r ≡ at + length (noted kind doubles) ⌝ }
+    ensures list { λ r. ⌜ now (readings .exit) ≡ writtenAt (now (readings .entry)) at (noted kind doubles) ⌝ }
+{
+    if kind == 7 {
+        readings[at] = doubles;
+        return at + 1;
+    }
+    at
+}
+
+// All calls of a list that fits, from a state without frames.
+fn run_from(
+    start: State,
+    calls: &[[u32; 5]],
+    times: &[[i64; 2]],
+    seconds: &[[f64; 2]],
+    answers: &mut [[usize; 2]],
+    lines: &mut [[u32; 2]],
+    list: &mut [[i64; 2]],
+    readings: &mut [[f64; 3]],
+) -> Ran
+    requires { ⌜ Begun start × (fitsIn (now calls) (now times) (now seconds) (listsOf (now answers) (now lines) (now list) (now readings)) ≡ true) ⌝ }
+    ensures { λ r. ⌜ Replayed (bufferOf start) (encodedCalls (now (calls .entry)) (now (times .entry)) (now (seconds .entry))) r
+        (listsOf (now (answers .entry)) (now (lines .entry)) (now (list .entry)) (now (readings .entry)))
+        (listsOf (now (answers .exit)) (now (lines .exit)) (now (list .exit)) (now (readings .exit))) ⌝ }
+{
+    let mut s = start;
+    let mut at: usize = 0;
+    let mut placed: usize = 0;
+    let mut read: usize = 0;
+    let mut i: usize = 0;
+    while i < calls.len() {
+        let row = calls[i];
+        let time = times[i];
+        let second = seconds[i];
+        let kind = row[0];
+        let t = call_at(s, row, time, second, lines, at, list, placed);
+        let count = t.count;
+        answers[i] = [t.refusal, count];
+        let doubles = t.doubles;
+        read = note_reading(kind, doubles, readings, read);
+        at += of_lines(kind, count);
+        placed += of_ranges(kind, count);
+        s = t.state;
+        i += 1;
+    }
+    Ran {
+        ending: Ending::Done,
+        lines: at,
+        ranges: placed,
+        readings: read,
+        state: s,
+    }
+}
+
+// ---- whether a list of calls can be run
+
+fn long_enough(
+    n: usize,
+    times: usize,
+    seconds: usize,
+    answers: usize,
+    lines: usize,
+    readings: usize,
+) -> bool
+    ensures { λ r. ⌜ r ≡ longEnough n times seconds answers lines readings ⌝ }
+{
+    (n <= times) & ((n <= seconds) & ((n <= answers) & ((n <= lines) & (n <= readings))))
+}
+
+fn row_fits(row: [u32; 5], room: usize) -> bool
+    ensures { λ r. ⌜ r ≡ rowFits room row ⌝ }
+{
+    let kind = row[0];
+    let asked = of_lines(kind, wide(row[4]));
+    (kind <= 9) & (asked <= room)
+}
+
+fn rows_fit(calls: &[[u32; 5]], room: usize) -> bool
+    ensures { λ r. ⌜ r ≡ allOf (rowFits room) (now (calls .entry)) ⌝ }
+{
+    let mut i: usize = 0;
+    while i < calls.len() {
+        if !row_fits(calls[i], room) {
+            return false;
+        }
+        i += 1;
+    }
+    true
+}
+
+fn ranges_of_row(row: [u32; 5]) -> usize
+    ensures { λ r. ⌜ r ≡ rangesOfRow row ⌝ }
+{
+    of_ranges(row[0], wide(row[4]))
+}
+
+// Taken from the room, row by row, so that no sum can overflow.
+fn ranges_fit(calls: &[[u32; 5]], room: usize) -> bool
+    ensures { λ r. ⌜ r ≡ leb (total rangesOfRow (now (calls .entry))) room ⌝ }
+{
+    let mut left = room;
+    let mut i: usize = 0;
+    while i < calls.len() {
+        let asked = ranges_of_row(calls[i]);
+        if left < asked {
+            return false;
+        }
+        left -= asked;
+        i += 1;
+    }
+    true
+}
+
+fn fit(
+    calls: &[[u32; 5]],
+    times: usize,
+    seconds: usize,
+    answers: usize,
+    lines: usize,
+    ranges: usize,
+    readings: usize,
+) -> bool
+    ensures { λ r. ⌜ r ≡ fits (now (calls .entry)) times seconds answers lines ranges readings ⌝ }
+{
+    let n = calls.len();
+    if !long_enough(n, times, seconds, answers, lines, readings) {
+        return false;
+    }
+    if !rows_fit(calls, lines - n) {
+        return false;
+    }
+    ranges_fit(calls, ranges)
+}
+
+// ---- the run
+
+fn no_run(ending: Ending) -> Ran
+    ensures { λ r. ⌜ r ≡ noRun ending ⌝ }
+{
+    let c = settings::no_state();
+    let state = c.state;
+    Ran {
+        ending,
+        lines: 0,
+        ranges: 0,
+        readings: 0,
+        state,
+    }
+}
+
+// Create a buffer and make every call of the list on it, each handed the state last given. Row i of `calls`, with row i of `times`
+// and of `seconds`, is a call; its answer goes to row i of `answers`; lines, ranges and readings follow each other in their lists.
+pub fn run(
+    kinds: &[u8],
+    calls: &[[u32; 5]],
+    times: &[[i64; 2]],
+    seconds: &[[f64; 2]],
+    answers: &mut [[usize; 2]],
+    lines: &mut [[u32; 2]],
+    list: &mut [[i64; 2]],
+    readings: &mut [[f64; 3]],
+) -> Ran
+    ensures ending { λ r. ⌜ r .ending ≡ endingFor (now (kinds .entry)) (fitsIn (now (calls .entry)) (now (times .entry)) (now (seconds .entry))
+        (listsOf (now (answers .entry)) (now (lines .entry)) (now (list .entry)) (now (readings .entry)))) ⌝ }
+    ensures claim { λ r. ⌜ Ends (r .ending) (now (kinds .entry)) (encodedCalls (now (calls .entry)) (now (times .entry)) (now (seconds .entry))) r
+        (listsOf (now (answers .entry)) (now (lines .entry)) (now (list .entry)) (now (readings .entry)))
+        (listsOf (now (answers .exit)) (now (lines .exit)) (now (list .exit)) (now (readings .exit))) ⌝ }
+{
+    if !fit(
+        calls,
+        times.len(),
+        seconds.len(),
+        answers.len(),
+        lines.len(),
+        list.len(),
+        readings.len(),
+    ) {
+        return no_run(Ending::Unfit);
+    }
+    let c = settings::create(kinds);
+    let answer = c.answer;
+    let s = c.state;
+    match answer {
+        Answer::Done => run_from(s, calls, times, seconds, answers, lines, list, readings),
+        Answer::Refused(why) => no_run(Ending::Refused(why)),
+    }
 }

@@ -371,7 +371,7 @@ fn fresh_state(tracks: [Track; 4], n: usize) -> State
 }
 
 // A refused creation carries the state of zeros, which every call refuses.
-fn no_state() -> Changed
+pub fn no_state() -> Changed
     ensures { λ r. ⌜ r ≡ changed zeroState (refused Refusal.Kinds) ⌝ }
 {
     let z = zero_track();

@@ -1,0 +1,66 @@
+-- A call that is lent a part of a longer list: the part goes back into its place.
+use mathlib.Core.Path.{_≡_, refl, sym, ap, subst, _∙_}
+use mathlib.Core.Bool.{Bool, true, false, cond}
+use mathlib.Core.List.{List, _++_, append-assoc}
+use Prim.Native.Nat.{ℕ, _+_, _-_, _≤_}
+use native.Mathlib.Omega.{arith}
+use borrow.Author.Tests.{le-ltb, ltb-false, eqb-false}
+use borrow.Rule.Slice.PartMut.{midOf, putMid}
+use lib.Dec.{ltb, eqb}
+use lib.IntN.{ℤ}
+use lib.Ieee.{Float}
+use lib.ListN.{length, take, drop, getD, length-append, length-drop, length-map, take-append-drop}
+use lib.Seq.{length-take-le, drop-append-le, drop-drop}
+use Rattle.laws.proofs.BoolLaws.{split}
+use Rattle.buffer_state.specs.declared.State.{State}
+use Rattle.buffer_state.specs.Answers.{written, laid}
+use Rattle.buffer_state.specs.Run.{Call, linesIn}
+use Rattle.call_list.specs.declared.Step.{Step}
+use Rattle.call_list.specs.Encoded.{callOf, ofLines, ofRanges, rowCall}
+use Rattle.call_list.specs.Replies.{Replied, replyOn, rangesIn, Stepped, writtenAt, CalledAt}
+
+-- a row's call is lent as many places as its kind makes of what the row asks for
+call-lent : (row : List ℕ) (times : List ℤ) (seconds : List Float)
+    → callOf row times seconds (ofLines (getD row 0 0) (getD row 4 0)) (ofRanges (getD row 0 0) (getD row 4 0)) ≡ rowCall row times seconds
+call-lent row times seconds =
+    split (ltb (getD row 0 0) 2) (λ a. rw a)
+    (λ a. split (ltb (getD row 0 0) 7) (λ b. rw (a, b))
+    (λ b. split (eqb (getD row 0 0) 7) (λ c. rw (a, b, c))
+    (λ c.
+    let h : 7 ≤ getD row 0 0 = ltb-false (getD row 0 0) 7 b in
+    let g : getD row 0 0 ≡ 7 → ⊥ = eqb-false (getD row 0 0) 7 c in
+    rw (a, b, c, le-ltb (getD row 0 0) 8 (omega (arith, g))))))
+
+part-length : {A : Type 0} (xs : List A) (at k : ℕ) → at + k ≤ length xs → length (midOf at k xs) ≡ k
+part-length xs at k inside = length-take-le k (drop at xs) (omega (arith, length-drop at xs))
+
+-- new elements in the part are new elements in the list
+module _ {A : Type 0} (xs : List A) (at k : ℕ) (new part : List A) where
+  part-back : part ≡ new ++ drop (length new) (midOf at k xs) → length part ≡ length (midOf at k xs) → putMid at k xs part ≡ writtenAt xs at new
+  part-back e l =
+      let few : length new ≤ length (midOf at k xs) = omega (arith, ap length e, length-append new (drop (length new) (midOf at k xs)), length-drop (length new) (midOf at k xs)) in
+      let rest : drop (length new) (midOf at k xs) ++ drop k (drop at xs) ≡ drop (at + length new) xs =
+      sym (drop-append-le (length new) (midOf at k xs) (drop k (drop at xs)) few)
+      ∙ ap (drop (length new)) (take-append-drop k (drop at xs)) ∙ drop-drop (length new) at xs in
+      ap (λ (p : List A). take at xs ++ (p ++ drop k (drop at xs))) e
+      ∙ ap (λ (p : List A). take at xs ++ p) (append-assoc new (drop (length new) (midOf at k xs)) (drop k (drop at xs)) ∙ ap (λ (p : List A). new ++ p) rest)
+
+module _ (row : List ℕ) (times : List ℤ) (seconds : List Float) (s : State) (t : Step) (lines₀ : List (List ℕ)) (at n : ℕ) (spans₀ : List (List ℤ)) (placed m : ℕ)
+    (en : n ≡ ofLines (getD row 0 0) (getD row 4 0)) (em : m ≡ ofRanges (getD row 0 0) (getD row 4 0))
+    (hn : at + n ≤ length lines₀) (hm : placed + m ≤ length spans₀) where
+  same-call : callOf row times seconds (length (midOf at n lines₀)) (length (midOf placed m spans₀)) ≡ rowCall row times seconds
+  same-call = rw (part-length lines₀ at n hn, part-length spans₀ placed m hm, en, em) (call-lent row times seconds)
+
+  pub called-at : (p : List (List ℕ)) (q : List (List ℤ))
+      → Stepped (replyOn (callOf row times seconds (length (midOf at n lines₀)) (length (midOf placed m spans₀))) s) t (midOf at n lines₀) p (midOf placed m spans₀) q
+      → length p ≡ length (midOf at n lines₀) → length q ≡ length (midOf placed m spans₀)
+      → CalledAt (replyOn (rowCall row times seconds) s) t lines₀ at (putMid at n lines₀ p) spans₀ placed (putMid placed m spans₀ q)
+  called-at p q h l k =
+      let g : Stepped (replyOn (rowCall row times seconds) s) t (midOf at n lines₀) p (midOf placed m spans₀) q =
+      subst (λ (c : Call). Stepped (replyOn c s) t (midOf at n lines₀) p (midOf placed m spans₀) q) same-call h in
+      let r = replyOn (rowCall row times seconds) s .result in
+      record {
+        step = g .step;
+        fates = part-back lines₀ at n (written (linesIn r)) p (g .fates ∙ ap (λ (j : ℕ). written (linesIn r) ++ drop j (midOf at n lines₀)) (sym (length-map (linesIn r) _))) l;
+        ranges = part-back spans₀ placed m (laid (rangesIn r)) q (g .ranges ∙ ap (λ (j : ℕ). laid (rangesIn r) ++ drop j (midOf placed m spans₀)) (sym (length-map (rangesIn r) _))) k;
+      }

@@ -1,0 +1,109 @@
+-- What a row's kind says of its result: lines, ranges or a reading, and never more ranges than places lent.
+use mathlib.Core.Path.{_≡_, refl}
+use mathlib.Core.Bool.{Bool, true, false, not}
+use mathlib.Core.List.{List, [], _∷_}
+use Prim.Native.Nat.{ℕ, _≤_, _<_}
+use native.Mathlib.Omega.{arith}
+use borrow.Author.Tests.{lt-ltb, le-ltb, ltb-true, ltb-false, eqb-true, eqb-false, ne-eqb}
+use lib.Dec.{ltb, eqb}
+use lib.IntN.{ℤ}
+use lib.Ieee.{Float, nan}
+use lib.ListN.{length, getD}
+use Rattle.laws.proofs.BoolLaws.{split, by-test}
+use Rattle.buffer_state.specs.Append.{Outcome, append}
+use Rattle.buffer_state.specs.Buffer.{Buffer, hasTrack}
+use Rattle.buffer_state.specs.Ranges.{Range, rangesOf, commonRangesOf, trackRanges, commonRanges}
+use Rattle.buffer_state.specs.Refusals.{Result, refused, done}
+use Rattle.buffer_state.specs.Remove.{remove}
+use Rattle.buffer_state.specs.Run.{Call, readCall, Answer, byOutcome, bySetting, byRanges, replyTo, linesIn}
+use Rattle.buffer_state.specs.Settings.{offsetSet, windowStartSet, windowEndSet}
+use Rattle.call_list.specs.Encoded.{trackOf, offeredOf, linesCall, settingCall, rangesCallOf, ofLines, ofRanges, rowCall}
+use Rattle.call_list.specs.Replies.{sizeOf, doublesIn, rangesIn}
+use Rattle.call_list.specs.Listed.{noted, readingsIn}
+
+pub record Shape (kind places : ℕ) (r : Result Answer) : Type 0 where
+  pub lines : ofLines kind (sizeOf r) ≡ length (linesIn r)
+  pub ranges : ofRanges kind (sizeOf r) ≡ length (rangesIn r)
+  pub few : length (rangesIn r) ≤ ofRanges kind places
+  pub readings : noted kind (doublesIn r) ≡ readingsIn r
+
+module _ (kind places : ℕ) (b : Buffer) where
+  outcome-shape : kind < 2 → (x : Result Outcome) → Shape kind places (byOutcome b x .result)
+  outcome-shape h (refused why) =
+      record { lines = rw (lt-ltb kind 2 h); ranges = rw (lt-ltb kind 8 (omega arith)); few = omega arith; readings = rw (ne-eqb kind 7 (λ e. omega arith)) }
+  outcome-shape h (done o) =
+      record { lines = rw (lt-ltb kind 2 h); ranges = rw (lt-ltb kind 8 (omega arith)); few = omega arith; readings = rw (ne-eqb kind 7 (λ e. omega arith)) }
+
+  setting-shape : 2 ≤ kind → kind < 7 → (x : Result Buffer) → Shape kind places (bySetting b x .result)
+  setting-shape h k (refused why) =
+      record { lines = rw (le-ltb kind 2 h); ranges = rw (lt-ltb kind 8 (omega arith)); few = omega arith; readings = rw (ne-eqb kind 7 (λ e. omega arith)) }
+  setting-shape h k (done c) =
+      record { lines = rw (le-ltb kind 2 h); ranges = rw (lt-ltb kind 8 (omega arith)); few = omega arith; readings = rw (ne-eqb kind 7 (λ e. omega arith)) }
+
+  module _ (h : 8 ≤ kind) where
+    ranges-shape : (x : Result (List Range)) → length (rangesIn (byRanges b x .result)) ≤ places → Shape kind places (byRanges b x .result)
+    ranges-shape (refused why) f =
+        record { lines = rw (le-ltb kind 2 (omega arith)); ranges = rw (le-ltb kind 8 h); few = omega arith; readings = rw (ne-eqb kind 7 (λ e. omega arith)) }
+    ranges-shape (done rs) f =
+        record { lines = rw (le-ltb kind 2 (omega arith)); ranges = rw (le-ltb kind 8 h); few = rw (le-ltb kind 8 h) f; readings = rw (ne-eqb kind 7 (λ e. omega arith)) }
+
+    abbrev Few : Result (List Range) → Type 0
+    Few x = length (rangesIn (byRanges b x .result)) ≤ places
+
+    track-few : (track : ℕ) → Few (trackRanges places track b)
+    unfolding trackRanges
+    track-few track =
+        by-test Few (not (hasTrack b track)) (λ _. omega arith)
+        (λ _. by-test Few (ltb places (length (rangesOf track (b .frames)))) (λ _. omega arith) (λ e. ltb-false places (length (rangesOf track (b .frames))) e))
+
+    common-few : Few (commonRanges places b)
+    unfolding commonRanges
+    common-few =
+        let n = length (commonRangesOf (length (b .tracks)) (b .frames)) in
+        by-test Few (ltb places n) (λ _. omega arith) (λ e. ltb-false places n e)
+
+module _ (row : List ℕ) (times : List ℤ) (seconds : List Float) (b : Buffer) where
+  abbrev kind : ℕ
+  kind = getD row 0 0
+
+  abbrev places : ℕ
+  places = getD row 4 0
+
+  abbrev Shaped : Call → Type 0
+  Shaped c = Shape kind places (replyTo c b .result)
+
+  lines-shape : kind < 2 → Shaped (linesCall row times seconds places)
+  unfolding replyTo
+  lines-shape h =
+      by-test Shaped (eqb kind 0) (λ _. outcome-shape kind places b h (append places (offeredOf row times) b))
+      (λ _. outcome-shape kind places b h (remove places (getD seconds 0 nan) (getD seconds 1 nan) b))
+
+  settings-shape : 2 ≤ kind → kind < 7 → Shaped (settingCall kind (getD row 2 0) (getD seconds 0 nan))
+  unfolding replyTo
+  settings-shape h k =
+      let x = getD seconds 0 nan in
+      by-test Shaped (eqb kind 2) (λ _. setting-shape kind places b h k (done b))
+      (λ _. by-test Shaped (eqb kind 3) (λ _. setting-shape kind places b h k (done b))
+      (λ _. by-test Shaped (eqb kind 4) (λ _. setting-shape kind places b h k (offsetSet x b))
+      (λ _. by-test Shaped (eqb kind 5) (λ _. setting-shape kind places b h k (windowStartSet x b))
+      (λ _. setting-shape kind places b h k (windowEndSet x b)))))
+
+  reading-shape : kind ≡ 7 → Shaped readCall
+  unfolding replyTo
+  reading-shape e = rw e (record { lines = refl; ranges = refl; few = omega arith; readings = refl })
+
+  reports-shape : 8 ≤ kind → Shaped (rangesCallOf row places)
+  unfolding replyTo
+  reports-shape h =
+      by-test Shaped (eqb kind 8) (λ _. ranges-shape kind places b h (trackRanges places (trackOf (getD row 1 0)) b) (track-few kind places b h (trackOf (getD row 1 0))))
+      (λ _. ranges-shape kind places b h (commonRanges places b) (common-few kind places b h))
+
+  pub row-shape : Shaped (rowCall row times seconds)
+  row-shape =
+      split (ltb kind 2) (λ e. rw e (lines-shape (ltb-true kind 2 e)))
+      (λ e. split (ltb kind 7) (λ f. rw (e, f) (settings-shape (ltb-false kind 2 e) (ltb-true kind 7 f)))
+      (λ f. split (eqb kind 7) (λ g. rw (e, f, g) (reading-shape (eqb-true kind 7 g)))
+      (λ g.
+      let l : 7 ≤ kind = ltb-false kind 7 f in
+      let n : kind ≡ 7 → ⊥ = eqb-false kind 7 g in
+      rw (e, f, g) (reports-shape (omega (arith, n))))))

@@ -1,0 +1,203 @@
+-- What holds after the first i calls; a turn adds one.
+use mathlib.Core.Path.{_≡_, refl, sym, ap, _∙_}
+use mathlib.Core.List.{List, [], _∷_}
+use Prim.Native.Nat.{ℕ, suc, _+_, _-_, _≤_, _<_}
+use native.Mathlib.Numerals.{add-one}
+use native.Mathlib.Omega.{arith}
+use lib.ListN.{length, getD, set}
+use mir.Syntax.{w64}
+use mir.Val.{Fits}
+use Rattle.buffer_state.specs.Layout.{bufferOf}
+use Rattle.call_list.specs.Encoded.{ofLines, ofRanges}
+use Rattle.call_list.specs.Listed.{listsOf}
+use Rattle.call_list.proofs.ListedLaws.{filled-inside}
+use Rattle.call_list.proofs.LoopLaws.{Room, room, Sofar, sofar-none, lines-room, ranges-room, turn, ended}
+use borrow.Author.Needs.{needs}
+use Rattle.call_list.proofs.run_from.Statement.{statement}
+use Rattle.call_list.proofs.run_from.Tie as tie
+
+abbrev Inv-loop : tie.InvT-loop
+Inv-loop calls times seconds answers₀ lines₀ list₀ readings₀ s₀ at₀ placed₀ read₀ i₀ answers lines list readings s at placed read i =
+    Sofar calls times seconds (bufferOf s₀) (listsOf answers₀ lines₀ list₀ readings₀) (listsOf answers lines list readings) s at placed read i
+
+abbrev μ-loop : tie.MeasureT-loop
+μ-loop calls times seconds answers₀ lines₀ list₀ readings₀ s₀ at₀ placed₀ read₀ i₀ answers lines list readings s at placed read i = length calls - i
+
+fit : (c : tie.Start Inv-loop μ-loop)
+    → Room (c .args .calls .now) (c .args .times .now) (c .args .seconds .now) (listsOf (c .args .answers .now) (c .args .lines .now) (c .args .list .now) (c .args .readings .now))
+fit c = room _ _ _ _ (c .pre .1)
+
+lists-fit : (c : tie.Start Inv-loop μ-loop)
+    → Fits w64 (length (c .args .calls .now)) × Fits w64 (length (c .args .lines .now)) × Fits w64 (length (c .args .list .now))
+lists-fit c = (search needs, search needs, search needs)
+
+-- a place for this call in each list
+record Places (c : tie.In-loop Inv-loop μ-loop) : Type 0 where
+  pub times : c .before .loop .i < length (c .before .before .args .times .now)
+  pub seconds : c .before .loop .i < length (c .before .before .args .seconds .now)
+  pub answers : c .before .loop .i < length (c .before .loop .answers)
+  pub readings : c .before .loop .read < length (c .before .loop .readings)
+
+places : (c : tie.In-loop Inv-loop μ-loop) → Places c
+places c =
+    let r = fit (c .before .before) in
+    let S = c .before .loop .inv in
+    let h = c .loop-test .taken in
+    record {
+      times = omega (arith, r .times);
+      seconds = omega (arith, r .seconds);
+      answers = omega (arith, r .answers, S .answers .same);
+      readings = omega (arith, r .readings, S .readings .same, S .read-few);
+    }
+
+-- the call's row
+abbrev row : tie.In-loop Inv-loop μ-loop → List ℕ
+row c = getD (c .before .before .args .calls .now) (c .before .loop .i) []
+
+lines-here : (c : tie.In-loop Inv-loop μ-loop) → c .before .loop .at + ofLines (getD (row c) 0 0) (getD (row c) 4 0) ≤ length (c .before .loop .lines)
+lines-here c =
+    let a = c .before .before in
+    lines-room _ _ _ _ _ (a .pre .0 .good) (a .pre .0 .empty) (fit a) _ _ _ _ _ _ (c .before .loop .inv) (c .loop-test .taken) (row c) refl
+
+ranges-here : (c : tie.In-loop Inv-loop μ-loop) → c .before .loop .placed + ofRanges (getD (row c) 0 0) (getD (row c) 4 0) ≤ length (c .before .loop .list)
+ranges-here c =
+    let a = c .before .before in
+    ranges-room _ _ _ _ _ (a .pre .0 .good) (a .pre .0 .empty) (fit a) _ _ _ _ _ _ (c .before .loop .inv) (c .loop-test .taken) (row c) refl
+
+-- the turn, up to the sums
+turned : (c : tie.After-readings Inv-loop μ-loop) →
+    let n = c .before in
+    let l = n .before .before .before in
+    let k = l .before .before in
+    let p = k .before .before .before .before .before .before in
+    let a = p .before .before .args in
+    let o = p .before .loop in
+    let t = k .call-at .result in
+    Sofar (a .calls .now) (a .times .now) (a .seconds .now) (bufferOf (a .start)) (listsOf (a .answers .now) (a .lines .now) (a .list .now) (a .readings .now))
+    (listsOf (set (o .answers) (o .i) (t .refusal ∷ t .count ∷ [])) (k .call-at .last .1 .1 .1 .1 .0) (k .call-at .last .1 .1 .1 .1 .1 .1 .0) (n .note-reading .last .1 .1 .0))
+    (t .state) (o .at + ofLines (getD (row p) 0 0) (t .count)) (o .placed + ofRanges (getD (row p) 0 0) (t .count)) (n .note-reading .result) (suc (o .i))
+turned c =
+    let n = c .before in
+    let k = n .before .before .before .before .before in
+    let p = k .before .before .before .before .before .before in
+    let s = p .before .before in
+    turn _ _ _ _ _ (s .pre .0 .good) (s .pre .0 .empty) (fit s) _ _ _ _ _ _ (p .before .loop .inv) (p .loop-test .taken) (row p) refl
+    (getD (s .args .times .now) (p .before .loop .i) []) (getD (s .args .seconds .now) (p .before .loop .i) []) refl refl (k .call-at .result)
+    _ _ _ _ _ _ _ (k .call-at .ensures) (k .call-at .kept .1 .1 .1 .1 .0) (k .call-at .kept .1 .1 .1 .1 .1 .1 .0) refl
+    (n .note-reading .ensures .1) (n .note-reading .kept .1 .1 .0) refl refl (n .note-reading .ensures .0)
+
+loop-holds : tie.Need-loop-holds Inv-loop μ-loop
+loop-holds c = sofar-none _ _ _ _ _ (c .args .start) (c .pre .0 .held)
+
+mul-row : tie.Need-mul-row Inv-loop μ-loop
+mul-row c = search needs
+
+shared-slice-copy-out-row : tie.Need-shared-slice-copy-out-row Inv-loop μ-loop
+shared-slice-copy-out-row c = search needs
+
+mul-time : tie.Need-mul-time Inv-loop μ-loop
+mul-time c = search needs
+
+shared-slice-copy-out-time : tie.Need-shared-slice-copy-out-time Inv-loop μ-loop
+shared-slice-copy-out-time c = places (c .before) .times
+
+mul-second : tie.Need-mul-second Inv-loop μ-loop
+mul-second c = search needs
+
+shared-slice-copy-out-second : tie.Need-shared-slice-copy-out-second Inv-loop μ-loop
+shared-slice-copy-out-second c = places (c .before .before) .seconds
+
+array-read-kind : tie.Need-array-read-kind Inv-loop μ-loop
+array-read-kind c = search needs
+
+call-at-requires : tie.Need-call-at-requires Inv-loop μ-loop
+call-at-requires c κs =
+    let l = c .before .before .before .before .before in
+    let a = l .before .before .args in
+    (lines-here l, ranges-here l)
+
+mul-t21 : tie.Need-mul-t21 Inv-loop μ-loop
+mul-t21 c = search needs
+
+slice-set-from-answers : tie.Need-slice-set-from-answers Inv-loop μ-loop
+slice-set-from-answers c = places (c .before .before .before .before .before .before .before .before) .answers
+
+note-reading-requires : tie.Need-note-reading-requires Inv-loop μ-loop
+note-reading-requires c κs = places (c .before .before .before .before .before .before .before .before .before .before) .readings
+
+of-lines-requires : tie.Need-of-lines-requires Inv-loop μ-loop
+of-lines-requires c κs = search needs
+
+add-at : tie.Need-add-at Inv-loop μ-loop
+add-at c =
+    let s = c .before .before .before .before .before .before .before .before .before .before .before .before .before .before .before in
+    record { fits = omega (arith, c .of-lines .ensures, filled-inside (turned (c .before) .lines), lists-fit s .1 .fits) }
+
+of-ranges-requires : tie.Need-of-ranges-requires Inv-loop μ-loop
+of-ranges-requires c κs = search needs
+
+add-placed : tie.Need-add-placed Inv-loop μ-loop
+add-placed c =
+    let r = c .before .before in
+    let s = r .before .before .before .before .before .before .before .before .before .before .before .before .before .before in
+    record { fits = omega (arith, c .of-ranges .ensures, filled-inside (turned r .ranges), lists-fit s .2 .fits) }
+
+add-i : tie.Need-add-i Inv-loop μ-loop
+add-i c =
+    let r = c .before .before .before in
+    let s = r .before .before .before .before .before .before .before .before .before .before .before .before .before .before in
+    record { fits = omega (arith, turned r .inside, lists-fit s .0 .fits) }
+
+loop-less : tie.Need-loop-less Inv-loop μ-loop
+loop-less c = search needs
+
+loop-again : tie.Need-loop-again Inv-loop μ-loop
+loop-again c =
+    let g = c .before in
+    rw (add-one, g .before .of-lines .ensures, g .of-ranges .ensures) (turned (g .before .before))
+
+same-length : tie.Need-same-length Inv-loop μ-loop
+same-length c = search needs
+
+same-length-2 : tie.Need-same-length-2 Inv-loop μ-loop
+same-length-2 c = search needs
+
+same-length-3 : tie.Need-same-length-3 Inv-loop μ-loop
+same-length-3 c = search needs
+
+same-length-4 : tie.Need-same-length-4 Inv-loop μ-loop
+same-length-4 c = search needs
+
+returns : tie.Need-returns Inv-loop μ-loop
+returns c = ended _ _ _ _ _ _ _ _ _ _ _ (c .before .loop .inv) (c .loop-test .left)
+
+pub run-from-spec : {M : Type 1} → statement M
+run-from-spec =
+    tie.close
+    (tie.spec
+    Inv-loop
+    μ-loop
+    loop-holds
+    mul-row
+    shared-slice-copy-out-row
+    mul-time
+    shared-slice-copy-out-time
+    mul-second
+    shared-slice-copy-out-second
+    array-read-kind
+    call-at-requires
+    mul-t21
+    slice-set-from-answers
+    note-reading-requires
+    of-lines-requires
+    add-at
+    of-ranges-requires
+    add-placed
+    add-i
+    loop-less
+    loop-again
+    same-length
+    same-length-2
+    same-length-3
+    same-length-4
+    returns)

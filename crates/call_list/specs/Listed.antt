@@ -1,0 +1,138 @@
+-- The run of a list of calls as numbers: the calls so encoded, what the lists hold after it, and when there is no run.
+use mathlib.Core.Path.{_≡_}
+use mathlib.Core.Bool.{Bool, true, cond, _&&_}
+use mathlib.Core.List.{List, [], _∷_, _++_, map}
+use Prim.Native.Nat.{ℕ, zero, suc, _-_, _≤_}
+use lib.Dec.{leb, eqb}
+use lib.IntN.{ℤ}
+use lib.Ieee.{Float}
+use lib.ListN.{length, drop, getD}
+use Rattle.buffer_state.specs.declared.State.{State}
+use Rattle.buffer_state.specs.Answers.{written, laid, zeroState}
+use Rattle.buffer_state.specs.Buffer.{Buffer, fresh}
+use Rattle.buffer_state.specs.Layout.{stateOf, bufferOf}
+use Rattle.buffer_state.specs.Refusals.{Result, refused, done}
+use Rattle.buffer_state.specs.Run.{Call, Answer, ok, fates, settings, ranges, Entry, run, lastOf, handedOut, total}
+use Rattle.buffer_state.specs.Settings.{create}
+use Rattle.buffer_state.specs.WellFormed.{allOf, goodBuffer}
+use Rattle.account.specs.History.{Account}
+use Rattle.call_list.specs.declared.Ending as End
+use Rattle.call_list.specs.declared.Ending.the-variants.{Done, Unfit, Refused}
+use Rattle.call_list.specs.declared.Ran.{Ran}
+use Rattle.call_list.specs.Encoded.{ofLines, ofRanges, rowCall}
+use Rattle.call_list.specs.Replies.{numberOf, sizeOf, doublesIn, rangesIn}
+
+-- ---- the calls
+
+-- the calls of the first so many rows
+unfoldable pub firstCalls : List (List ℕ) → List (List ℤ) → List (List Float) → ℕ → List Call
+firstCalls rows times seconds zero = []
+firstCalls rows times seconds (suc i) = firstCalls rows times seconds i ++ (rowCall (getD rows i []) (getD times i []) (getD seconds i []) ∷ [])
+
+abbrev pub encodedCalls : List (List ℕ) → List (List ℤ) → List (List Float) → List Call
+encodedCalls rows times seconds = firstCalls rows times seconds (length rows)
+
+-- ---- what the lists hold
+
+-- a call's answer: its refusal number or 0, and how many lines, ranges or doubles
+abbrev pub answerOf : Entry → List ℕ
+answerOf e = numberOf (e .result) ∷ sizeOf (e .result) ∷ []
+
+-- the doubles of a reading: offset, window start, window end
+abbrev pub readingsIn : Result Answer → List (List Float)
+readingsIn (refused why) = []
+readingsIn (done ok) = []
+readingsIn (done (fates ls)) = []
+readingsIn (done (settings r)) = doublesIn (done (settings r)) ∷ []
+readingsIn (done (ranges rs)) = []
+
+-- what all results have of one sort, in order
+unfoldable pub allOut : {A : Type 0} → (Result Answer → List A) → List Entry → List A
+allOut of [] = []
+allOut of (e ∷ es) = of (e .result) ++ allOut of es
+
+-- what a call of this kind notes of these doubles
+abbrev pub noted : ℕ → List Float → List (List Float)
+noted kind doubles = cond (eqb kind 7) (doubles ∷ []) []
+
+-- a list with new elements at its front, so many, and then what it held
+pub record Filled {A : Type 0} (new before after : List A) (n : ℕ) : Type 0 where
+  pub count : n ≡ length new
+  pub list : after ≡ new ++ drop n before
+  pub same : length after ≡ length before
+
+-- what the lent lists hold
+pub record Lists : Type 0 where
+  pub answers : List (List ℕ)
+  pub lines : List (List ℕ)
+  pub ranges : List (List ℤ)
+  pub readings : List (List Float)
+
+abbrev pub listsOf : List (List ℕ) → List (List ℕ) → List (List ℤ) → List (List Float) → Lists
+listsOf answers lines spans readings = record { answers = answers; lines = lines; ranges = spans; readings = readings }
+
+-- the lists and the last state after calls on a buffer
+pub record Replayed (b : Buffer) (cs : List Call) (r : Ran) (before after : Lists) : Type 0 where
+  pub ending : r .ending ≡ Done
+  pub state : r .state ≡ stateOf (lastOf b cs)
+  pub answers : Filled (map answerOf (run b cs)) (before .answers) (after .answers) (length cs)
+  pub lines : Filled (written (handedOut (run b cs))) (before .lines) (after .lines) (r .lines)
+  pub ranges : Filled (laid (allOut rangesIn (run b cs))) (before .ranges) (after .ranges) (r .ranges)
+  pub readings : Filled (allOut readingsIn (run b cs)) (before .readings) (after .readings) (r .readings)
+
+-- ---- when there is a run
+
+-- a kind from 0 to 9, and room for a call's lines beside a line for each call
+abbrev pub rowFits : ℕ → List ℕ → Bool
+rowFits room row = leb (getD row 0 0) 9 && leb (ofLines (getD row 0 0) (getD row 4 0)) room
+
+abbrev pub rangesOfRow : List ℕ → ℕ
+rangesOfRow row = ofRanges (getD row 0 0) (getD row 4 0)
+
+-- every list has a place for each call
+abbrev pub longEnough : ℕ → ℕ → ℕ → ℕ → ℕ → ℕ → Bool
+longEnough n times seconds answers lines readings = leb n times && (leb n seconds && (leb n answers && (leb n lines && leb n readings)))
+
+-- and the range list one for each that is asked for
+unfoldable pub fits : List (List ℕ) → ℕ → ℕ → ℕ → ℕ → ℕ → ℕ → Bool
+fits rows times seconds answers lines spans readings =
+    longEnough (length rows) times seconds answers lines readings
+    && (allOf (rowFits (lines - length rows)) rows && leb (total rangesOfRow rows) spans)
+
+-- of lists given whole
+abbrev pub fitsIn : List (List ℕ) → List (List ℤ) → List (List Float) → Lists → Bool
+fitsIn rows times seconds l = fits rows (length times) (length seconds) (length (l .answers)) (length (l .lines)) (length (l .ranges)) (length (l .readings))
+
+abbrev pub endingOf : Result Buffer → End.Ending
+endingOf (refused why) = Refused why
+endingOf (done b) = Done
+
+-- Unfit first, then the refusal of the creation.
+unfoldable pub endingFor : List ℕ → Bool → End.Ending
+endingFor kinds fit = cond fit (endingOf (create kinds)) Unfit
+
+-- where there is no run: nothing is written, and no state is given
+abbrev pub noRun : End.Ending → Ran
+noRun e = record { ending = e; lines = 0; ranges = 0; readings = 0; state = zeroState }
+
+pub record NoRun (e : End.Ending) (r : Ran) (before after : Lists) : Type 0 where
+  pub ran : r ≡ noRun e
+  pub kept : after ≡ before
+
+-- THE CLAIM of a run: it is the plain run over the calls so encoded, and it accounts for every number.
+pub record Claimed (kinds : List ℕ) (cs : List Call) (r : Ran) (before after : Lists) : Type 0 where
+  pub replayed : Replayed (fresh kinds) cs r before after
+  pub account : Account (run (fresh kinds) cs) (r .state)
+
+abbrev pub Ends : End.Ending → List ℕ → List Call → Ran → Lists → Lists → Type 0
+Ends Done kinds cs = Claimed kinds cs
+Ends Unfit kinds cs = NoRun Unfit
+Ends (Refused why) kinds cs = NoRun (Refused why)
+
+-- ---- the loop's premise
+
+-- a state without frames that holds a good buffer
+pub record Begun (s : State) : Type 0 where
+  pub held : s ≡ stateOf (bufferOf s)
+  pub good : goodBuffer (bufferOf s) ≡ true
+  pub empty : bufferOf s .frames ≡ []
