@@ -1,13 +1,13 @@
 -- The claim of demand 3, for every history; that every list of calls has a history; that no call asks anything of its caller; and that
 -- the running code meets the contracts of which a history is made.
 use mathlib.Core.Path.{_≡_, refl, sym, ap, _∙_}
-use mathlib.Core.Bool.{Bool, true, false, cond, not, _&&_, _||_}
+use mathlib.Core.Bool.{Bool, true, false, not, _||_}
 use mathlib.Core.List.{List, [], _∷_, map}
-use Prim.Native.Nat.{ℕ, zero, suc, _+_}
+use Prim.Native.Nat.{ℕ, zero, suc}
 use native.Mathlib.Nat.{zero-add}
 use contract.Lifetimes.{Lfts}
-use denote.Ref.{RefT, now, at-last}
-use lib.Dec.{leb, ltb, eqb}
+use denote.Ref.{RefT, now}
+use lib.Dec.{ltb, eqb}
 use lib.IntN.{ℤ}
 use lib.Ieee.{Float}
 use lib.ListN.{length, take}
@@ -22,8 +22,8 @@ use Rattle.buffer_state.specs.Answers.{changed, zeroState, createAnswer, abortA
 use Rattle.buffer_state.specs.Buffer.{Buffer, fresh}
 use Rattle.buffer_state.specs.Layout.{stateOf, bufferOf}
 use Rattle.buffer_state.specs.Limits.{mostTracks, knownKind}
-use Rattle.buffer_state.specs.Refusals.{Result, refused, done}
-use Rattle.buffer_state.specs.Run.{Call, Entry, replyTo, run, lastOf, offers, foundStored, foundTold, offeredOn, storedOn, droppedOn, removedOn, onOffered}
+use Rattle.buffer_state.specs.Refusals.{Result, done}
+use Rattle.buffer_state.specs.Run.{Call, replyTo, run, lastOf, offers, onOffered}
 use Rattle.buffer_state.specs.Settings.{create}
 use Rattle.buffer_state.specs.WellFormed.{allOf, goodBuffer}
 use Rattle.buffer_laws.proofs.AccountLaws.{found-once, tracks-balance}

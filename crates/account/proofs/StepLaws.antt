@@ -16,7 +16,7 @@ use Rattle.buffer_state.specs.declared.Read.{Read}
 use Rattle.buffer_state.specs.declared.State.{State}
 use Rattle.buffer_state.specs.declared.WindowEnd.{WindowEnd}
 use Rattle.buffer_state.specs.declared.WindowEnd.the-variants.{Unbounded, At}
-use Rattle.buffer_state.specs.Answers.{changed, abortAnswer, modeAnswer, offsetAnswer, windowStartAnswer, windowEndAnswer, readWith, read, settingsAnswer, counted, written, listAfter, appendResult, removeResult, rangeCount, laid, rangesAfter, trackRangesResult, commonRangesResult}
+use Rattle.buffer_state.specs.Answers.{changed, abortAnswer, modeAnswer, offsetAnswer, windowStartAnswer, windowEndAnswer, readWith, read, settingsAnswer, counted, listAfter, appendResult, removeResult, rangeCount, rangesAfter, trackRangesResult, commonRangesResult}
 use Rattle.buffer_state.specs.Append as Append
 use Rattle.buffer_state.specs.Append.{Outcome}
 use Rattle.buffer_state.specs.Buffer.{Buffer}
@@ -31,7 +31,7 @@ use Rattle.buffer_state.specs.Store.{Line}
 use Rattle.buffer_state.specs.WellFormed.{goodBuffer}
 use Rattle.buffer_laws.proofs.LayoutLaws.{on-laid-out}
 use Rattle.ranges.specs.Bars.{Reported}
-use Rattle.account.specs.Made.{Given, append, remove, abort, setMode, setOffset, setWindowStart, setWindowEnd, readSettings, trackRanges, commonRanges, asked, Back, Listed, lineOf, rangeOf, linesOf, rangesOf, changeOf, readingOf, resultOf, Kept, KeptBy}
+use Rattle.account.specs.Made.{Given, append, remove, abort, setMode, setOffset, setWindowStart, setWindowEnd, readSettings, trackRanges, commonRanges, asked, Back, lineOf, rangeOf, linesOf, rangesOf, changeOf, readingOf, resultOf, Kept, KeptBy}
 
 -- a call made on a state agrees with the run's reply: its result, the state that it leaves, what stays of a lent list
 pub record Agrees (b : Buffer) (g : Given) (back : Back g) (s : State) : Type 0 where

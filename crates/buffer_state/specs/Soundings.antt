@@ -1,4 +1,5 @@
--- Document 01, "Soundings to check against": cases A to K in one table, each with its whole outcome, and one proof over all of it.
+-- Document 01, "Soundings to check against": cases A to K in one table, each with its whole outcome, and one proof
+-- over all of it; with them two refused calls of L in the midst of a run.
 -- Video, one track, durations 100; R is a flagged frame, P one that is not, both given by presentation and decode time.
 use mathlib.Core.Path.{_≡_, refl}
 use mathlib.Core.Bool.{Bool, true, false}
@@ -11,10 +12,11 @@ use Rattle.buffer_state.specs.declared.Frame.{Frame}
 use Rattle.buffer_state.specs.declared.Track.{Track}
 use Rattle.buffer_state.specs.declared.Mode.the-variants.{Segments, Sequence}
 use Rattle.buffer_state.specs.declared.Group.{Group}
+use Rattle.buffer_state.specs.declared.Refusal.the-variants.{FrameLimits, Seconds}
 use Rattle.buffer_state.specs.declared.WindowEnd.the-variants.{Unbounded, At}
 use Rattle.buffer_state.specs.Buffer.{Buffer, fresh, freshTrack, freshSettings}
 use Rattle.buffer_state.specs.Limits.{offeredTime, resultTime, goodDuration}
-use Rattle.buffer_state.specs.Refusals.{Result, done}
+use Rattle.buffer_state.specs.Refusals.{Result, refused, done}
 use Rattle.buffer_state.specs.Store.{before, insertSorted, followsTaken, walkFrom, kept, Line, linesOf}
 use Rattle.buffer_state.specs.Append.{stepOne, stepTwo, passOf, fits, regrouped, breaks, secondPass, lastPass, leavesLimits, overlapped, overlapMarks, stepNine, stored, settled, appended, offerable, append}
 use Rattle.buffer_state.specs.Remove.{farEdge, removalMarks, afterLoss, removed, remove}
@@ -217,6 +219,20 @@ caseK bits z = record {
   ranges = [];
 }
 
+-- A with two refused calls of L in between, which change nothing: a duration of 0, and the next double above 1,000,000.
+abbrev caseL : Case
+caseL = record {
+  calls =
+      R 0 0
+      ∷ appendCall 1024 (record { track = 1; flagged = true; duration = 0; pts = pos 100; dts = pos 100 })
+      ∷ offsetCall (double 0x412e_8480_0000_0001)
+      ∷ P 100 100
+      ∷ [];
+  results = told [] ∷ refused FrameLimits ∷ refused Seconds ∷ told [] ∷ [];
+  left = caseA .left;
+  ranges = caseA .ranges;
+}
+
 -- The table. K: 0.0078125 gives 7812, 0.0234375 gives 23438, -0.0078125 gives -7812, the smallest positive double gives 0,
 -- 1,000,000 gives 1,000,000,000,000.
 abbrev pub table : List Case
@@ -230,6 +246,7 @@ table =
     ∷ caseK 0xbf80_0000_0000_0000 (negℤ (pos 7812))
     ∷ caseK 0x0000_0000_0000_0001 (pos 0)
     ∷ caseK 0x412e_8480_0000_0000 (pos 1000000000000)
+    ∷ caseL
     ∷ []
 
 -- what the definitions make of a case's calls

@@ -1,22 +1,19 @@
 -- How a run ends, and what holds then.
 use mathlib.Core.Path.{_≡_, refl, sym, ap, subst, _∙_}
-use mathlib.Core.Bool.{Bool, true, false, _&&_}
-use mathlib.Core.List.{List, []}
+use mathlib.Core.Bool.{Bool, true, false}
+use mathlib.Core.List.{List}
 use Prim.Native.Nat.{ℕ, _-_}
 use lib.Dec.{leb}
-use lib.IntN.{ℤ}
-use lib.Ieee.{Float}
 use lib.ListN.{length}
 use Rattle.buffer_state.specs.declared.Answer as Code
 use Rattle.buffer_state.specs.declared.Answer.the-variants as Said
 use Rattle.buffer_state.specs.declared.Changed.{Changed}
 use Rattle.buffer_state.specs.declared.Refusal.{Refusal}
-use Rattle.buffer_state.specs.declared.State.{State}
 use Rattle.buffer_state.specs.Answers.{changed, zeroState, createAnswer}
 use Rattle.buffer_state.specs.Buffer.{Buffer, fresh}
 use Rattle.buffer_state.specs.Layout.{stateOf, bufferOf}
 use Rattle.buffer_state.specs.Refusals.{Result, refused, done}
-use Rattle.buffer_state.specs.Run.{Call, run, lastOf, total}
+use Rattle.buffer_state.specs.Run.{Call, run, total}
 use Rattle.buffer_state.specs.Settings.{create}
 use Rattle.buffer_state.specs.WellFormed.{allOf, goodBuffer}
 use Rattle.buffer_laws.proofs.GoodLaws.{facts-good}
@@ -26,7 +23,7 @@ use Rattle.account.proofs.Claim.{created, fresh-good, run-accounts}
 use Rattle.call_list.specs.declared.Ending as End
 use Rattle.call_list.specs.declared.Ending.the-variants.{Done, Unfit, Refused}
 use Rattle.call_list.specs.declared.Ran.{Ran}
-use Rattle.call_list.specs.Listed.{rowFits, rangesOfRow, longEnough, fits, Lists, Replayed, endingOf, endingFor, noRun, NoRun, Claimed, Ends, Begun}
+use Rattle.call_list.specs.Listed.{rowFits, rangesOfRow, longEnough, fits, Lists, Replayed, endingOf, endingFor, noRun, Ends, Begun}
 
 -- ---- whether a list can be run, test by test
 

@@ -1,20 +1,18 @@
 -- A run grows by a call: what it hands out, what the lists hold, and how much room is left.
-use mathlib.Core.Path.{_≡_, refl, sym, ap, subst, _∙_}
-use mathlib.Core.Bool.{Bool, true, false}
+use mathlib.Core.Path.{_≡_, refl, sym, ap, _∙_}
 use mathlib.Core.List.{List, [], _∷_, _++_, map, append-assoc, append-nil}
 use Prim.Native.Nat.{ℕ, zero, suc, _+_, _-_, _≤_, _<_}
 use native.Mathlib.Nat.{add-zero}
 use native.Mathlib.Numerals.{add-one}
 use native.Mathlib.Omega.{arith}
-use lib.ListN.{length, take, drop, getD, set, length-append, length-drop, length-map, take-append-drop}
+use lib.ListN.{length, take, drop, set, length-append, length-drop, take-append-drop}
 use lib.Seq.{take-at, set-split, drop-append-add, drop-drop}
-use Rattle.buffer_state.specs.declared.Frame.{Frame}
 use Rattle.buffer_state.specs.Buffer.{Buffer}
 use Rattle.buffer_state.specs.Refusals.{Result, refused, done}
 use Rattle.buffer_state.specs.Run.{Call, appendCall, removeCall, abortCall, modeCall, offsetCall, windowStartCall, windowEndCall, readCall, rangesCall, commonCall, Answer, Entry, replyTo, run, lastOf, linesIn, handedOut, offeredBy, offers, total}
 use Rattle.buffer_state.specs.Store.{Line}
 use Rattle.buffer_laws.proofs.RunLaws.{numbersAfter, run-lawful}
-use Rattle.buffer_laws.proofs.StoreLaws.{frameWeight, lineWeight}
+use Rattle.buffer_laws.proofs.StoreLaws.{frameWeight}
 use Rattle.call_list.specs.Listed.{allOut, Filled}
 use Rattle.call_list.specs.Replies.{writtenAt}
 

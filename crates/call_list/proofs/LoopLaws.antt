@@ -1,23 +1,22 @@
 -- The loop over a list of calls: what holds after the first i of them, and one turn.
-use mathlib.Core.Path.{_≡_, refl, sym, ap, ap₂, subst, _∙_}
-use mathlib.Core.Bool.{Bool, true, false, cond, _&&_}
+use mathlib.Core.Path.{_≡_, refl, sym, ap, subst, _∙_}
+use mathlib.Core.Bool.{Bool, true}
 use mathlib.Core.List.{List, [], _∷_, _++_, map}
 use Prim.Native.Nat.{ℕ, zero, suc, _+_, _-_, _≤_, _<_}
-use native.Mathlib.Numerals.{add-one}
 use native.Mathlib.Omega.{arith}
 use borrow.Author.Tests.{leb-true}
 use lib.Dec.{leb, eqb}
 use lib.IntN.{ℤ}
 use lib.Ieee.{Float}
-use lib.ListN.{length, take, drop, getD, set, length-append, length-map, length-set}
+use lib.ListN.{length, take, getD, set, length-append, length-map, length-set}
 use Rattle.laws.proofs.BoolLaws.{and-left, and-right, by-test}
 use Rattle.buffer_state.specs.declared.State.{State}
 use Rattle.buffer_state.specs.Answers.{written, laid}
 use Rattle.buffer_state.specs.Buffer.{Buffer}
-use Rattle.buffer_state.specs.Layout.{stateOf, bufferOf, wellFormed}
+use Rattle.buffer_state.specs.Layout.{stateOf}
 use Rattle.buffer_state.specs.Ranges.{Range}
 use Rattle.buffer_state.specs.Refusals.{Result}
-use Rattle.buffer_state.specs.Run.{Call, Answer, Entry, replyTo, run, lastOf, linesIn, handedOut, total}
+use Rattle.buffer_state.specs.Run.{Call, Answer, Entry, replyTo, run, lastOf, linesIn, total}
 use Rattle.buffer_state.specs.Store.{Line}
 use Rattle.buffer_state.specs.WellFormed.{allOf, goodBuffer}
 use Rattle.buffer_laws.proofs.GoodLaws.{good-facts, facts-good}

@@ -1,6 +1,5 @@
 -- A call that is lent a part of a longer list: the part goes back into its place.
-use mathlib.Core.Path.{_≡_, refl, sym, ap, subst, _∙_}
-use mathlib.Core.Bool.{Bool, true, false, cond}
+use mathlib.Core.Path.{_≡_, sym, ap, subst, _∙_}
 use mathlib.Core.List.{List, _++_, append-assoc}
 use Prim.Native.Nat.{ℕ, _+_, _-_, _≤_}
 use native.Mathlib.Omega.{arith}
@@ -17,7 +16,7 @@ use Rattle.buffer_state.specs.Answers.{written, laid}
 use Rattle.buffer_state.specs.Run.{Call, linesIn}
 use Rattle.call_list.specs.declared.Step.{Step}
 use Rattle.call_list.specs.Encoded.{callOf, ofLines, ofRanges, rowCall}
-use Rattle.call_list.specs.Replies.{Replied, replyOn, rangesIn, Stepped, writtenAt, CalledAt}
+use Rattle.call_list.specs.Replies.{replyOn, rangesIn, Stepped, writtenAt, CalledAt}
 
 -- a row's call is lent as many places as its kind makes of what the row asks for
 call-lent : (row : List ℕ) (times : List ℤ) (seconds : List Float)

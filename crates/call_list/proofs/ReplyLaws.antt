@@ -1,10 +1,9 @@
 -- What the contracts of the calls say of any state, in the run's words and as numbers.
-use mathlib.Core.Path.{_≡_, refl, sym, ap, _∙_}
-use mathlib.Core.Bool.{Bool, true, false}
+use mathlib.Core.Path.{_≡_, refl, sym, ap}
+use mathlib.Core.Bool.{true, false}
 use mathlib.Core.List.{List, [], _∷_}
 use Prim.Native.Nat.{ℕ, _≤_, _<_}
 use native.Mathlib.Omega.{arith}
-use lib.Dec.{eqb}
 use lib.IntN.{ℤ}
 use lib.Ieee.{Float, nan}
 use lib.ListN.{length, getD}
@@ -24,17 +23,17 @@ use Rattle.buffer_state.specs.declared.WindowEnd.the-variants.{Unbounded, At}
 use Rattle.buffer_state.specs.Answers.{changed, abortAnswer, modeAnswer, offsetAnswer, windowStartAnswer, windowEndAnswer, readWith, read, settingsAnswer, counted, listAfter, appendResult, removeResult, rangeCount, rangesAfter, trackRangesResult, commonRangesResult}
 use Rattle.buffer_state.specs.Append.{Outcome, append}
 use Rattle.buffer_state.specs.Buffer.{Buffer}
-use Rattle.buffer_state.specs.Layout.{stateOf, bufferOf, wellFormed, onState}
+use Rattle.buffer_state.specs.Layout.{bufferOf, wellFormed, onState}
 use Rattle.buffer_state.specs.Ranges.{Range, trackRanges, commonRanges}
 use Rattle.buffer_state.specs.Refusals.{Result, refused, done, refusalNumber}
 use Rattle.buffer_state.specs.Remove.{remove}
-use Rattle.buffer_state.specs.Run.{Call, appendCall, removeCall, abortCall, modeCall, offsetCall, windowStartCall, windowEndCall, readCall, rangesCall, commonCall, Answer, ok, settings, ranges, Reply, byOutcome, bySetting, byRanges, replyTo, linesIn}
+use Rattle.buffer_state.specs.Run.{Call, appendCall, removeCall, abortCall, modeCall, offsetCall, windowStartCall, windowEndCall, readCall, rangesCall, commonCall, settings, ranges, byOutcome, bySetting, byRanges, replyTo}
 use Rattle.buffer_state.specs.Settings.{aborted, modeSet, offsetSet, windowStartSet, windowEndSet, Reading, reading}
 use Rattle.buffer_laws.proofs.LayoutLaws.{ill-formed-refused, on-well-formed, state-back}
 use Rattle.ranges.specs.Bars.{Reported}
 use Rattle.call_list.specs.declared.Step.{Step}
 use Rattle.call_list.specs.Encoded.{trackOf, modeOf, offeredOf, linesCall, settingCall, rangesCallOf, callOf}
-use Rattle.call_list.specs.Replies.{Replied, laidReply, replyOn, numberOf, sizeOf, doublesIn, stepOf, rangesIn, fatesAfter, spansAfter, Stepped, Lined, Spanned, Quiet, plainStep, changeStep, countStep, readStep}
+use Rattle.call_list.specs.Replies.{Replied, laidReply, replyOn, Stepped, Lined, Spanned, Quiet, plainStep, changeStep, countStep, readStep}
 
 -- by cases of whether the state is well-formed
 on-reply : (P : Replied → Type 0) (c : Call) (s : State)

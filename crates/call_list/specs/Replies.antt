@@ -22,7 +22,6 @@ use Rattle.buffer_state.specs.Layout.{stateOf, bufferOf, wellFormed}
 use Rattle.buffer_state.specs.Ranges.{Range}
 use Rattle.buffer_state.specs.Refusals.{Result, refused, done, refusalNumber}
 use Rattle.buffer_state.specs.Run.{Call, Answer, ok, fates, settings, ranges, Reply, replyTo, linesIn}
-use Rattle.buffer_state.specs.Settings.{Reading}
 use Rattle.call_list.specs.declared.Step.{Step}
 
 -- a call's result and the state after it

@@ -10,15 +10,36 @@ use buffer_state::State;
 ghost use mathlib.Core.Path.{_≡_};
 ghost use mathlib.Core.Bool.{true};
 ghost use Prim.Native.Nat.{_+_, _≤_, _<_};
+ghost use lib.Dec.{leb};
 ghost use lib.ListN.{length, getD};
-ghost use Rattle.buffer_state.specs.Refusals.{refusalNumber};
-ghost use Rattle.call_list.specs.Encoded.{trackOf, flagOf, modeOf, offeredOf, linesCall, settingCall, rangesCallOf, callOf, ofLines, ofRanges, rowCall};
 ghost use Rattle.buffer_state.specs.Layout.{bufferOf};
+ghost use Rattle.buffer_state.specs.Refusals.{refusalNumber};
 ghost use Rattle.buffer_state.specs.Run.{total};
 ghost use Rattle.buffer_state.specs.WellFormed.{allOf};
-ghost use lib.Dec.{leb};
-ghost use Rattle.call_list.specs.Listed.{noted, listsOf, longEnough, rowFits, rangesOfRow, fits, fitsIn, endingFor, noRun, Ends, encodedCalls, Begun, Replayed};
+ghost use Rattle.call_list.specs.Encoded.{trackOf, modeOf, offeredOf, linesCall, settingCall, rangesCallOf, callOf, ofLines, ofRanges, rowCall};
 ghost use Rattle.call_list.specs.Replies.{replyOn, Stepped, writtenAt, CalledAt, Lined, Spanned, Quiet, plainStep, changeStep, countStep, readStep};
+ghost use Rattle.call_list.specs.Listed.{noted, listsOf, longEnough, rowFits, rangesOfRow, fits, fitsIn, endingFor, noRun, Ends, encodedCalls, Begun, Replayed};
+
+// The kinds of call. Up to REMOVE they are lent a fate list, from ABORT to WINDOW_END none, from TRACK_RANGES on a range list.
+pub const APPEND: u32 = 0;
+
+pub const REMOVE: u32 = 1;
+
+pub const ABORT: u32 = 2;
+
+pub const MODE: u32 = 3;
+
+pub const OFFSET: u32 = 4;
+
+pub const WINDOW_START: u32 = 5;
+
+pub const WINDOW_END: u32 = 6;
+
+pub const READ: u32 = 7;
+
+pub const TRACK_RANGES: u32 = 8;
+
+pub const COMMON_RANGES: u32 = 9;
 
 // What one call gave: its refusal number or 0; how many lines, ranges or doubles; the doubles of a reading; the state.
 pub struct Step {
@@ -144,7 +165,7 @@ fn lines_step(
 ) -> Step
     ensures { λ r. ⌜ Lined (replyOn (linesCall row times seconds (length (now (fates .entry)))) s) r (now (fates .entry)) (now (fates .exit)) ⌝ }
 {
-    if row[0] == 0 {
+    if row[0] == APPEND {
         let f = offered_of(row, times);
         let a = append::append(s, f, fates);
         let answer = a.answer;
@@ -162,16 +183,16 @@ fn lines_step(
 fn changed(s: State, kind: u32, flag: u32, x: f64) -> Changed
     ensures { λ r. ⌜ Quiet (replyOn (settingCall kind flag x) s) (changeStep (r .answer) (r .state)) ⌝ }
 {
-    if kind == 2 {
+    if kind == ABORT {
         return settings::abort(s);
     }
-    if kind == 3 {
+    if kind == MODE {
         return settings::set_mode(s, mode_of(flag));
     }
-    if kind == 4 {
+    if kind == OFFSET {
         return settings::set_offset(s, x);
     }
-    if kind == 5 {
+    if kind == WINDOW_START {
         return settings::set_window_start(s, x);
     }
     settings::set_window_end(s, x)
@@ -180,7 +201,7 @@ fn changed(s: State, kind: u32, flag: u32, x: f64) -> Changed
 fn ranges_step(s: State, row: [u32; 5], list: &mut [[i64; 2]]) -> Step
     ensures { λ r. ⌜ Spanned (replyOn (rangesCallOf row (length (now (list .entry)))) s) r (now (list .entry)) (now (list .exit)) ⌝ }
 {
-    if row[0] == 8 {
+    if row[0] == TRACK_RANGES {
         let track = track_of(row[1]);
         let a = ranges::track_ranges(s, track, list);
         return count_step(a, s);
@@ -201,16 +222,16 @@ pub fn make_call(
     ensures { λ r. ⌜ Stepped (replyOn (callOf row times seconds (length (now (fates .entry))) (length (now (list .entry)))) s) r (now (fates .entry)) (now (fates .exit)) (now (list .entry)) (now (list .exit)) ⌝ }
 {
     let kind = row[0];
-    if kind < 2 {
+    if kind < ABORT {
         return lines_step(s, row, times, seconds, fates);
     }
-    if kind < 7 {
+    if kind < READ {
         let c = changed(s, kind, row[2], seconds[0]);
         let answer = c.answer;
         let t = c.state;
         return change_step(answer, t);
     }
-    if kind == 7 {
+    if kind == READ {
         return read_step(settings::read_settings(s), s);
     }
     ranges_step(s, row, list)
@@ -244,7 +265,7 @@ fn wide(n: u32) -> usize
 fn of_lines(kind: u32, n: usize) -> usize
     ensures { λ r. ⌜ r ≡ ofLines kind n ⌝ }
 {
-    if kind < 2 {
+    if kind < ABORT {
         return n;
     }
     0
@@ -253,7 +274,7 @@ fn of_lines(kind: u32, n: usize) -> usize
 fn of_ranges(kind: u32, n: usize) -> usize
     ensures { λ r. ⌜ r ≡ ofRanges kind n ⌝ }
 {
-    if kind < 8 {
+    if kind < TRACK_RANGES {
         return 0;
     }
     n
@@ -293,7 +314,7 @@ fn note_reading(kind: u32, doubles: [f64; 3], readings: &mut [[f64; 3]], at: usi
     ensures count { λ r. ⌜ r ≡ at + length (noted kind doubles) ⌝ }
     ensures list { λ r. ⌜ now (readings .exit) ≡ writtenAt (now (readings .entry)) at (noted kind doubles) ⌝ }
 {
-    if kind == 7 {
+    if kind == READ {
         readings[at] = doubles;
         return at + 1;
     }
@@ -365,7 +386,7 @@ fn row_fits(row: [u32; 5], room: usize) -> bool
 {
     let kind = row[0];
     let asked = of_lines(kind, wide(row[4]));
-    (kind <= 9) & (asked <= room)
+    (kind <= COMMON_RANGES) & (asked <= room)
 }
 
 fn rows_fit(calls: &[[u32; 5]], room: usize) -> bool

@@ -1,7 +1,6 @@
 -- The state of a refused creation.
 use mathlib.Core.Path.{ap}
 use Rattle.buffer_state.specs.declared.Changed.{Changed}
-use Rattle.call_list.specs.Listed.{noRun}
 use borrow.Author.Needs.{needs}
 use Rattle.call_list.proofs.no_run.Statement.{statement}
 use Rattle.call_list.proofs.no_run.Tie as tie

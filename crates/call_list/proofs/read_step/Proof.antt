@@ -1,5 +1,5 @@
 -- By cases of the answer.
-use mathlib.Core.Path.{_≡_, refl, sym, ap, _∙_}
+use mathlib.Core.Path.{_≡_, sym, ap, _∙_}
 use Prim.Native.Nat.{ℕ}
 use lib.Ieee.{ofBits}
 use Rattle.buffer_state.specs.declared.Read.{Read}
