@@ -1,0 +1,4 @@
+pub mod CopyLaws
+pub mod LoopLaws
+pub mod CallLaws
+pub mod FlatLaws

@@ -1,0 +1,153 @@
+-- A state laid flat for callers in C and Rust: numbers alone, so that every bit pattern is a value. A flag is 0 or 1, the mode is 0
+-- (segments) or 1 (sequence), and a window end is a flag beside a double, zero where there is none. `flatOf` and `stateIn` undo each
+-- other wherever the numbers are ones (proofs/FlatLaws.antt); where one is not, `stateIn` gives a state that every call refuses.
+use mathlib.Core.Bool.{Bool, true, cond, _&&_}
+use mathlib.Core.List.{map}
+use Prim.Native.Nat.{ℕ}
+use lib.Dec.{leb, eqb}
+use lib.Ieee.{Float}
+use Rattle.seconds.specs.Seconds.{zeroSeconds, sameDouble}
+use Rattle.buffer_state.specs.declared.Frame.{Frame}
+use Rattle.buffer_state.specs.declared.Group.{Group}
+use Rattle.buffer_state.specs.declared.Mode.{Mode}
+use Rattle.buffer_state.specs.declared.Mode.the-variants.{Segments, Sequence}
+use Rattle.buffer_state.specs.declared.Offered.{Offered}
+use Rattle.buffer_state.specs.declared.Setting.{Setting}
+use Rattle.buffer_state.specs.declared.Settings.{Settings}
+use Rattle.buffer_state.specs.declared.State.{State}
+use Rattle.buffer_state.specs.declared.Track.{Track}
+use Rattle.buffer_state.specs.declared.WindowEnd.{WindowEnd}
+use Rattle.buffer_state.specs.declared.WindowEnd.the-variants.{Unbounded, At}
+use Rattle.buffer_state.specs.WellFormed.{allOf}
+use Rattle.exports.specs.declared.Flat.{Flat}
+use Rattle.exports.specs.declared.FlatFrame.{FlatFrame}
+use Rattle.exports.specs.declared.FlatGroup.{FlatGroup}
+use Rattle.exports.specs.declared.FlatOffered.{FlatOffered}
+use Rattle.exports.specs.declared.FlatSetting.{FlatSetting}
+use Rattle.exports.specs.declared.FlatSettings.{FlatSettings}
+use Rattle.exports.specs.declared.FlatTrack.{FlatTrack}
+
+-- ---- numbers that stand for something
+
+-- a flag, and a mode
+abbrev pub isFlag : ℕ → Bool
+isFlag n = leb n 1
+
+abbrev pub flagIn : ℕ → Bool
+flagIn n = eqb n 1
+
+abbrev pub flagOut : Bool → ℕ
+flagOut b = cond b 1 0
+
+abbrev pub modeIn : ℕ → Mode
+modeIn n = cond (eqb n 1) Sequence Segments
+
+abbrev pub modeOut : Mode → ℕ
+modeOut Segments = 0
+modeOut Sequence = 1
+
+abbrev pub endIn : ℕ → Float → WindowEnd
+endIn bounded x = cond (eqb bounded 1) (At x) Unbounded
+
+-- whether there is a window end, and its double
+abbrev pub boundedOut : WindowEnd → ℕ
+boundedOut Unbounded = 0
+boundedOut (At x) = 1
+
+abbrev pub endOut : WindowEnd → Float
+endOut Unbounded = zeroSeconds
+endOut (At x) = x
+
+-- ---- the parts of a state
+
+abbrev pub frameIn : FlatFrame → Frame
+frameIn f = record { track = f .track; flagged = flagIn (f .flagged); duration = f .duration; number = f .number; pts = f .pts; dts = f .dts }
+
+abbrev pub frameOut : Frame → FlatFrame
+frameOut f = record { track = f .track; flagged = flagOut (f .flagged); duration = f .duration; number = f .number; pts = f .pts; dts = f .dts }
+
+abbrev pub trackIn : FlatTrack → Track
+trackIn t =
+    record { kind = t .kind; known = flagIn (t .known); need = flagIn (t .need); duration = t .duration; dts = t .dts; end = t .end }
+
+abbrev pub trackOut : Track → FlatTrack
+trackOut t =
+    record { kind = t .kind; known = flagOut (t .known); need = flagOut (t .need); duration = t .duration; dts = t .dts; end = t .end }
+
+abbrev pub groupIn : FlatGroup → Group
+groupIn g = record { begun = flagIn (g .begun); start = g .start; end = g .end }
+
+abbrev pub groupOut : Group → FlatGroup
+groupOut g = record { begun = flagOut (g .begun); start = g .start; end = g .end }
+
+abbrev pub settingIn : FlatSetting → Setting
+settingIn x = record { seconds = x .seconds; micros = x .micros }
+
+abbrev pub settingOut : Setting → FlatSetting
+settingOut x = record { seconds = x .seconds; micros = x .micros }
+
+abbrev pub settingsIn : FlatSettings → Settings
+settingsIn t =
+    record { offset = settingIn (t .offset); start = settingIn (t .start); end = endIn (t .bounded) (t .end); limit = t .limit }
+
+abbrev pub settingsOut : Settings → FlatSettings
+settingsOut t =
+    record { offset = settingOut (t .offset); start = settingOut (t .start); bounded = boundedOut (t .end); end = endOut (t .end); limit = t .limit }
+
+abbrev pub offeredIn : FlatOffered → Offered
+offeredIn f = record { track = f .track; flagged = flagIn (f .flagged); duration = f .duration; pts = f .pts; dts = f .dts }
+
+-- ---- the numbers of a flat state are ones
+
+abbrev pub plainFrame : FlatFrame → Bool
+plainFrame f = isFlag (f .flagged)
+
+abbrev pub plainTrack : FlatTrack → Bool
+plainTrack t = isFlag (t .known) && isFlag (t .need)
+
+-- no window end: its double is zero
+abbrev pub plainEnd : ℕ → Float → Bool
+plainEnd bounded x = cond (eqb bounded 1) true (eqb bounded 0 && sameDouble x zeroSeconds)
+
+-- all but the frames
+abbrev pub plainHead : Flat → Bool
+plainHead c =
+    isFlag (c .mode) && (isFlag (c .group .begun) && (plainEnd (c .settings .bounded) (c .settings .end) && allOf plainTrack (c .tracks)))
+
+unfoldable pub plain : Flat → Bool
+plain c = plainHead c && allOf plainFrame (c .frames)
+
+-- ---- the state
+
+-- a state laid flat, beside a call's refusal number (0: done) and its count
+abbrev pub flatOf : ℕ → ℕ → State → Flat
+flatOf refusal count s = record {
+  frames = map frameOut (s .frames);
+  nframes = s .nframes;
+  tracks = map trackOut (s .tracks);
+  ntracks = s .ntracks;
+  mode = modeOut (s .mode);
+  last = s .last;
+  group = groupOut (s .group);
+  settings = settingsOut (s .settings);
+  refusal = refusal;
+  count = count;
+}
+
+-- a flat state read, with so many tracks
+abbrev pub stateWith : ℕ → Flat → State
+stateWith ntracks c = record {
+  frames = map frameIn (c .frames);
+  nframes = c .nframes;
+  tracks = map trackIn (c .tracks);
+  ntracks = ntracks;
+  mode = modeIn (c .mode);
+  group = groupIn (c .group);
+  last = c .last;
+  settings = settingsIn (c .settings);
+}
+
+-- Where one of its numbers is none of its kind, or where the call's own numbers are not (`told` is false), a flat state is read as
+-- one without tracks, which is not well-formed, so that the call is refused 1.
+abbrev pub stateIn : Bool → Flat → State
+stateIn told c = stateWith (cond (told && plain c) (c .ntracks) 0) c
