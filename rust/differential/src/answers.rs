@@ -1,0 +1,196 @@
+//! Counting what the answers say: accepted and refused calls, causes, and the doubles handed in.
+
+use std::fmt::Write;
+
+use script::Call;
+use second::{micros, SECONDS_LIMIT};
+
+/// A call of the paper, with the refusals and causes that it can give.
+struct Row {
+    call: &'static str,
+    refusals: &'static [usize],
+    causes: &'static [usize],
+}
+
+const fn row(call: &'static str, refusals: &'static [usize], causes: &'static [usize]) -> Row {
+    Row {
+        call,
+        refusals,
+        causes,
+    }
+}
+
+const ROWS: [Row; 11] = [
+    row("create", &[11], &[]),
+    row("append", &[1, 2, 3, 4, 9, 7, 8], &[1, 2, 3, 4, 5]),
+    row("remove", &[1, 2, 5, 6], &[5, 6]),
+    row("abort", &[1], &[]),
+    row("mode", &[1], &[]),
+    row("offset", &[1, 5], &[]),
+    row("window-start", &[1, 5, 6], &[]),
+    row("window-end", &[1, 5, 6], &[]),
+    row("settings", &[1], &[]),
+    row("ranges", &[1, 3, 10], &[]),
+    row("common", &[1, 10], &[]),
+];
+
+/// One more than the highest refusal.
+const REFUSALS: usize = 12;
+
+/// One more than the highest cause.
+const CAUSES: usize = 7;
+
+type Test = fn(f64) -> bool;
+
+/// Doubles that are easily taken wrongly, each with its test.
+const DOUBLES: [(&str, Test); 8] = [
+    ("NaN", f64::is_nan),
+    ("plus infinity", |double| double == f64::INFINITY),
+    ("minus infinity", |double| double == f64::NEG_INFINITY),
+    ("minus zero", |double| {
+        double == 0.0 && double.is_sign_negative()
+    }),
+    ("below zero, 0 microseconds", |double| {
+        double < 0.0 && micros(double) == Some(0)
+    }),
+    ("exact half microsecond", is_half),
+    ("1,000,000 either way", |double| {
+        double.abs() == SECONDS_LIMIT
+    }),
+    ("the next beyond 1,000,000", |double| {
+        double.abs() == SECONDS_LIMIT.next_up()
+    }),
+];
+
+/// Whether a double is an odd multiple of 1/128; the product is exact.
+fn is_half(double: f64) -> bool {
+    double.abs() <= SECONDS_LIMIT && (double * 128.0).rem_euclid(2.0) == 1.0
+}
+
+/// What was answered.
+#[derive(Clone, Debug, Default)]
+pub struct Answers {
+    /// Scripts compared.
+    pub scripts: u64,
+    /// Answers compared.
+    pub answers: u64,
+    /// States compared.
+    pub states: u64,
+    /// Full accounts drawn up.
+    pub accounts: u64,
+    /// Pokes that an implementation declined.
+    pub declined: u64,
+    accepted: [u64; ROWS.len()],
+    refused: [[u64; REFUSALS]; ROWS.len()],
+    causes: [[u64; CAUSES]; ROWS.len()],
+    doubles: [u64; DOUBLES.len()],
+}
+
+impl Answers {
+    /// Counts an answer.
+    pub(crate) fn count(&mut self, line: &str, answer: &str) {
+        self.answers += 1;
+        self.count_doubles(line);
+        let call = line.split(' ').next();
+        let Some(row) = ROWS.iter().position(|row| Some(row.call) == call) else {
+            return;
+        };
+        match answer.split_once(' ') {
+            Some(("refused", number)) => {
+                let number: Option<usize> = number.parse().ok();
+                if let Some(place) = number.and_then(|n| self.refused[row].get_mut(n)) {
+                    *place += 1;
+                }
+            }
+            _ if answer.starts_with("ok") => {
+                self.accepted[row] += 1;
+                for (_, cause) in fates(answer) {
+                    if let Some(place) = self.causes[row].get_mut(cause as usize) {
+                        *place += 1;
+                    }
+                }
+            }
+            _ => {}
+        }
+    }
+
+    fn count_doubles(&mut self, line: &str) {
+        let doubles = match Call::read(line) {
+            Some(Call::Remove(start, end, _)) => vec![start, end],
+            Some(Call::Offset(time) | Call::WindowStart(time) | Call::WindowEnd(time)) => {
+                vec![time]
+            }
+            _ => return,
+        };
+        for double in doubles {
+            for (place, (_, is)) in self.doubles.iter_mut().zip(DOUBLES) {
+                *place += u64::from(is(double));
+            }
+        }
+    }
+
+    /// What was never reached, or reached although the paper does not have it.
+    pub fn gaps(&self) -> Vec<String> {
+        let mut gaps = Vec::new();
+        for (index, row) in ROWS.iter().enumerate() {
+            let call = row.call;
+            let mut judge = |what: String, due: bool, times: u64| {
+                if due != (times > 0) {
+                    gaps.push(format!("{call} {what}: {times} times"));
+                }
+            };
+            judge("accepted".to_string(), true, self.accepted[index]);
+            for (number, &times) in self.refused[index].iter().enumerate() {
+                judge(
+                    format!("refused {number}"),
+                    row.refusals.contains(&number),
+                    times,
+                );
+            }
+            for (cause, &times) in self.causes[index].iter().enumerate() {
+                judge(format!("cause {cause}"), row.causes.contains(&cause), times);
+            }
+        }
+        let missed = DOUBLES
+            .iter()
+            .zip(self.doubles)
+            .filter(|(_, times)| *times == 0);
+        gaps.extend(missed.map(|((name, _), _)| format!("seconds, {name}: never")));
+        gaps
+    }
+
+    /// The counts as tables.
+    pub fn tables(&self) -> String {
+        let mut text = String::from(
+            "| Call | Accepted | Refused, by number | Lines, by cause |\n|---|---|---|---|\n",
+        );
+        for (index, row) in ROWS.iter().enumerate() {
+            let list = |numbers: &[usize], counts: &[u64]| {
+                let words = numbers.iter().map(|&n| format!("{n}: {}", counts[n]));
+                words.collect::<Vec<_>>().join(", ")
+            };
+            let _ = writeln!(
+                text,
+                "| {} | {} | {} | {} |",
+                row.call,
+                self.accepted[index],
+                list(row.refusals, &self.refused[index]),
+                list(row.causes, &self.causes[index])
+            );
+        }
+        text.push_str("\n| Seconds handed in | Times |\n|---|---|\n");
+        for ((name, _), times) in DOUBLES.iter().zip(self.doubles) {
+            let _ = writeln!(text, "| {name} | {times} |");
+        }
+        text
+    }
+}
+
+/// The fate lines of an answer.
+pub(crate) fn fates(answer: &str) -> impl Iterator<Item = (u32, u32)> + '_ {
+    let lines = answer.strip_prefix("ok fates ").unwrap_or_default();
+    lines.split(' ').filter_map(|line| {
+        let (number, cause) = line.strip_prefix('(')?.strip_suffix(')')?.split_once(',')?;
+        Some((number.parse().ok()?, cause.parse().ok()?))
+    })
+}

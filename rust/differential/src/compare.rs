@@ -1,0 +1,176 @@
+//! One script, two implementations, and every answer, list and state compared.
+
+use std::fmt;
+
+use script::{state_line, Session, Subject};
+use second::State;
+
+use crate::account::Accounts;
+use crate::answers::Answers;
+
+/// The calls that only read.
+const READING: [&str; 4] = ["settings", "ranges", "common", "state"];
+
+/// Where two implementations part.
+#[derive(Clone, Debug, PartialEq, Eq)]
+pub struct Parting {
+    /// The line of the script, from 1.
+    pub number: usize,
+    /// The line itself.
+    pub line: String,
+    /// What the one says, or is.
+    pub one: String,
+    /// What the other says, or is.
+    pub other: String,
+}
+
+impl fmt::Display for Parting {
+    fn fmt(&self, f: &mut fmt::Formatter<'_>) -> fmt::Result {
+        writeln!(f, "line {}: {}", self.number, self.line)?;
+        writeln!(f, "one:   {}", self.one)?;
+        write!(f, "other: {}", self.other)
+    }
+}
+
+/// Puts a script to two implementations; tells where they part first.
+pub fn compare<A: Subject, B: Subject>(
+    one: &mut A,
+    other: &mut B,
+    script: &[String],
+    answers: &mut Answers,
+) -> Result<(), Box<Parting>> {
+    let mut pair = Pair {
+        one: Session::new(one),
+        other: Session::new(other),
+        accounts: Accounts::default(),
+    };
+    answers.scripts += 1;
+    for (number, line) in (1..).zip(script) {
+        pair.step(line, answers).map_err(|[one, other]| {
+            Box::new(Parting {
+                number,
+                line: line.clone(),
+                one,
+                other,
+            })
+        })?;
+    }
+    Ok(())
+}
+
+/// The two sessions, and the account kept of both.
+struct Pair<'a, A: Subject, B: Subject> {
+    one: Session<'a, A>,
+    other: Session<'a, B>,
+    accounts: Accounts,
+}
+
+/// What the one and the other say where they part.
+type Words = [String; 2];
+
+impl<A: Subject, B: Subject> Pair<'_, A, B> {
+    fn step(&mut self, line: &str, answers: &mut Answers) -> Result<(), Words> {
+        if line.starts_with("poke ") {
+            return self.poke(line, answers);
+        }
+        let before = self.views();
+        let said = [self.one.answer(line), self.other.answer(line)];
+        let answer = match said {
+            [None, None] => return Ok(()),
+            [Some(one), Some(other)] if one == other => one,
+            said => return Err(said.map(Option::unwrap_or_default)),
+        };
+        answers.count(line, &answer);
+        let after = self.views();
+        let call = line.split(' ').next().unwrap_or_default();
+        if answer.starts_with("refused") || READING.contains(&call) {
+            unmoved(&before, &after)?;
+        }
+        self.same_states(&after, answers)?;
+        if answer.starts_with("ok") {
+            self.book(line, &answer, &after, answers)?;
+        }
+        Ok(())
+    }
+
+    /// A poke that one of them declines is made on neither.
+    fn poke(&mut self, line: &str, answers: &mut Answers) -> Result<(), Words> {
+        let before = (self.one.state().cloned(), self.other.state().cloned());
+        let said = [self.one.answer(line), self.other.answer(line)].map(Option::unwrap_or_default);
+        if said.iter().any(|said| said == "declined") {
+            answers.declined += 1;
+            if let (Some(one), Some(other)) = before {
+                self.one.set_state(one);
+                self.other.set_state(other);
+            }
+            return Ok(());
+        }
+        if said[0] != said[1] {
+            return Err(said);
+        }
+        answers.count(line, &said[0]);
+        self.same_states(&self.views(), answers)?;
+        self.accounts.book(line, &said[0]).map_err(of_both)
+    }
+
+    fn views(&self) -> [Option<State>; 2] {
+        [self.one.view(), self.other.view()]
+    }
+
+    /// Both take the state for well-formed and it is the same, or neither does: what a state that
+    /// is not well-formed looks like is free.
+    fn same_states(
+        &mut self,
+        views: &[Option<State>; 2],
+        answers: &mut Answers,
+    ) -> Result<(), Words> {
+        let well_formed = [self.one.is_well_formed(), self.other.is_well_formed()];
+        if well_formed[0] != well_formed[1] {
+            return Err(well_formed.map(|is| format!("well-formed: {is}")));
+        }
+        if well_formed[0] && views[0] != views[1] {
+            return Err(views.each_ref().map(shown));
+        }
+        answers.states += 1;
+        Ok(())
+    }
+
+    /// Books the answer, and draws up the account where the script asks for the state.
+    fn book(
+        &mut self,
+        line: &str,
+        answer: &str,
+        views: &[Option<State>; 2],
+        answers: &mut Answers,
+    ) -> Result<(), Words> {
+        self.accounts.book(line, answer).map_err(of_both)?;
+        let state = views[0].as_ref().filter(|_| line == "state");
+        match state.and_then(|state| self.accounts.balances(state)) {
+            Some(false) => Err(of_both("the account does not balance".to_string())),
+            Some(true) => {
+                answers.accounts += 1;
+                Ok(())
+            }
+            None => Ok(()),
+        }
+    }
+}
+
+/// A call that is refused or only reads leaves both states as they were.
+fn unmoved(before: &[Option<State>; 2], after: &[Option<State>; 2]) -> Result<(), Words> {
+    if before == after {
+        return Ok(());
+    }
+    Err([0, 1].map(|side| match before[side] == after[side] {
+        true => "unmoved".to_string(),
+        false => format!("moved to: {}", shown(&after[side])),
+    }))
+}
+
+fn shown(view: &Option<State>) -> String {
+    view.as_ref().map_or("none".to_string(), state_line)
+}
+
+fn of_both(words: String) -> Words {
+    [words.clone(), words]
+}

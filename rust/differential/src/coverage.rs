@@ -1,0 +1,129 @@
+//! Counting the branches of the steps and the clauses of the well-formed test.
+
+use std::fmt::Write;
+
+use second::{Branch, Fault, Trace};
+
+/// Where in a call a branch is taken.
+#[derive(Clone, Copy, Debug, PartialEq, Eq)]
+enum Part {
+    FirstPass,
+    SecondPass,
+    Removal,
+}
+
+use Part::{FirstPass, Removal, SecondPass};
+
+const PARTS: [Part; 3] = [FirstPass, SecondPass, Removal];
+
+/// The parts in which a branch can be taken at all.
+fn parts(branch: Branch) -> &'static [Part] {
+    use Branch::*;
+    match branch {
+        AppendBegins | Step1Unset | PresentationLeaves | Step3Equal | Step3Within | Step3Twice
+        | Step3Below | Step3Beyond | Step6Clear | Step7Below | Step7At | Step7Above | Step7Gap
+        | Step9HighestRaised | Step9HighestKept | Step9GroupKept => &[FirstPass],
+        Step1Segments | Step1Moves | Step1Same | OffsetLeaves | DecodeLeaves | EndLeaves
+        | Step3Unset | Step4Drop | Step5Drop | Step6Drop | Step6Off | Step7Unset | Full
+        | RoomFreed | Step7Takes | Step7None | Step9Last | Step9Before | Step9Equal
+        | Step9HighestSet | Step9GroupRaised => &[FirstPass, SecondPass],
+        BreakInSegments | BreakInSequence => &[FirstPass, Removal],
+        Step8Takes | Step8Stops => &[FirstPass, SecondPass, Removal],
+        RemoveBegins | RemoveUnbounded | RemoveEdge | RemoveNoEdge | RemoveNone
+        | RemoveLosesTaken | RemoveLosesFollowing => &[Removal],
+    }
+}
+
+/// A trace that counts.
+#[derive(Clone, Debug)]
+pub struct Coverage {
+    part: Part,
+    /// Whether step 1 ran in this pass.
+    started: bool,
+    branches: [[u64; PARTS.len()]; Branch::ALL.len()],
+    faults: [u64; Fault::ALL.len()],
+    /// Breaks in the pass in which step 1 has just set the offset.
+    breaks_after_start: u64,
+}
+
+impl Default for Coverage {
+    fn default() -> Self {
+        Self {
+            part: FirstPass,
+            started: false,
+            branches: [[0; PARTS.len()]; Branch::ALL.len()],
+            faults: [0; Fault::ALL.len()],
+            breaks_after_start: 0,
+        }
+    }
+}
+
+impl Trace for Coverage {
+    fn reach(&mut self, branch: Branch) {
+        match branch {
+            Branch::AppendBegins => (self.part, self.started) = (FirstPass, false),
+            Branch::RemoveBegins => self.part = Removal,
+            Branch::Step1Moves | Branch::Step1Same => self.started = true,
+            _ => {}
+        }
+        self.branches[branch as usize][self.part as usize] += 1;
+        let breaks = matches!(branch, Branch::BreakInSegments | Branch::BreakInSequence);
+        if breaks && self.part == FirstPass {
+            self.breaks_after_start += u64::from(self.started);
+            self.part = SecondPass;
+        }
+    }
+
+    fn fault(&mut self, fault: Fault) {
+        self.faults[fault as usize] += 1;
+    }
+}
+
+impl Coverage {
+    /// What was never reached, or reached although it cannot be.
+    pub fn gaps(&self) -> Vec<String> {
+        let mut gaps = Vec::new();
+        for (&branch, counts) in Branch::ALL.iter().zip(&self.branches) {
+            for (part, &times) in PARTS.into_iter().zip(counts) {
+                if parts(branch).contains(&part) != (times > 0) {
+                    gaps.push(format!("{}, {part:?}: {times} times", branch.text()));
+                }
+            }
+        }
+        if self.breaks_after_start == 0 {
+            gaps.push("step 3 break straight after step 1: never".to_string());
+        }
+        let missed = Fault::ALL
+            .iter()
+            .zip(self.faults)
+            .filter(|(_, times)| *times == 0);
+        gaps.extend(missed.map(|(fault, _)| format!("{}: never", fault.text())));
+        gaps
+    }
+
+    /// The counts as tables; a dash where a branch cannot be taken.
+    pub fn tables(&self) -> String {
+        let mut text =
+            String::from("| Branch | First pass | Second pass | Removal |\n|---|---|---|---|\n");
+        for (&branch, counts) in Branch::ALL.iter().zip(&self.branches) {
+            let cells = PARTS.into_iter().zip(counts).map(|(part, times)| {
+                match parts(branch).contains(&part) {
+                    true => times.to_string(),
+                    false => "-".to_string(),
+                }
+            });
+            let cells: Vec<String> = cells.collect();
+            let _ = writeln!(text, "| {} | {} |", branch.text(), cells.join(" | "));
+        }
+        let _ = writeln!(
+            text,
+            "| step 3 break straight after step 1 | {} | - | - |",
+            self.breaks_after_start
+        );
+        text.push_str("\n| Fault of a state | Times |\n|---|---|\n");
+        for (fault, times) in Fault::ALL.iter().zip(self.faults) {
+            let _ = writeln!(text, "| {} | {times} |", fault.text());
+        }
+        text
+    }
+}

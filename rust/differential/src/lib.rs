@@ -1,0 +1,23 @@
+//! Generated scripts, put to two implementations of the frame buffer at once, and every answer,
+//! list and state compared.
+//!
+//! What the scripts reached is counted: each refusal of each call, each cause, each clause of the
+//! well-formed test and each branch of the steps. A run that never reached one of them proves
+//! less than it seems to, and fails.
+
+#![forbid(unsafe_code)]
+
+mod account;
+mod answers;
+mod compare;
+mod coverage;
+mod generate;
+mod rng;
+mod run;
+mod writer;
+
+pub use answers::Answers;
+pub use compare::{compare, Parting};
+pub use coverage::Coverage;
+pub use generate::script;
+pub use run::{run, Failure, Plan};

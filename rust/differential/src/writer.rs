@@ -1,0 +1,243 @@
+//! Writing the lines of a script, with just enough memory to write calls that mean something.
+
+use second::{quotient, LONGEST_DURATION, SECONDS_LIMIT, TRACK_PLACES};
+
+use crate::rng::Rng;
+
+/// Durations around the usual 100.
+const DURATIONS: [u32; 9] = [100, 100, 100, 100, 1, 50, 99, 101, 400];
+
+/// A script being written.
+pub(crate) struct Writer {
+    pub(crate) rng: Rng,
+    pub(crate) lines: Vec<String>,
+    /// The buffer's tracks, as last created.
+    pub(crate) tracks: u32,
+    /// The last decode time offered on each track, and its duration.
+    last: [(i64, i64); TRACK_PLACES],
+}
+
+impl Writer {
+    pub(crate) fn new(seed: u64) -> Self {
+        Self {
+            rng: Rng::new(seed),
+            lines: Vec::new(),
+            tracks: 0,
+            last: [(0, 0); TRACK_PLACES],
+        }
+    }
+
+    pub(crate) fn line(&mut self, line: impl Into<String>) {
+        self.lines.push(line.into());
+    }
+
+    /// A buffer of so many tracks, of either kind.
+    pub(crate) fn create(&mut self, tracks: u32) {
+        let mut line = "create".to_string();
+        for _ in 0..tracks {
+            line.push_str(self.rng.pick(&[" 0", " 1"]));
+        }
+        self.line(line);
+        self.tracks = tracks;
+        self.last = [(0, 0); TRACK_PLACES];
+    }
+
+    /// A buffer of some tracks, mostly few.
+    pub(crate) fn create_some(&mut self) {
+        let tracks = self.rng.pick(&[1, 1, 1, 2, 2, 3, 4]);
+        self.create(tracks);
+    }
+
+    /// One of the buffer's tracks.
+    pub(crate) fn track(&mut self) -> u32 {
+        self.rng.between(1, i64::from(self.tracks)) as u32
+    }
+
+    pub(crate) fn append(&mut self, track: u32, pts: i64, dts: i64, duration: u32, flagged: bool) {
+        let flag = u8::from(flagged);
+        self.line(format!("append {track} {pts} {dts} {duration} {flag}"));
+        if let Some(last) = self.last.get_mut(track as usize - 1) {
+            *last = (dts, i64::from(duration));
+        }
+    }
+
+    /// A frame at or near where the track's decode time goes on, with the steps that are nearly
+    /// a break and those that just are one.
+    pub(crate) fn append_on(&mut self) {
+        let track = self.track();
+        let (dts, duration) = self.last[track as usize - 1];
+        let dts = match self.rng.between(1, 100) {
+            1..=55 => dts + duration,
+            56..=64 => dts,
+            65..=74 => dts + 2 * duration,
+            75..=80 => dts + 2 * duration + 1,
+            81..=86 => dts - 1,
+            _ => self.instant(),
+        };
+        let pts = dts + self.rng.pick(&[0, 0, 0, 0, 0, 100, 200, 1, -1, -100, -250]);
+        let duration = self.rng.pick(&DURATIONS);
+        let flagged = self.rng.percent(45);
+        self.append(track, pts, dts, duration, flagged);
+    }
+
+    /// A frame anywhere among the first few.
+    pub(crate) fn append_anywhere(&mut self) {
+        let (track, pts) = (self.track(), self.instant());
+        let dts = match self.rng.percent(70) {
+            true => pts,
+            false => self.instant(),
+        };
+        let duration = self.rng.pick(&DURATIONS);
+        let flagged = self.rng.percent(60);
+        self.append(track, pts, dts, duration, flagged);
+    }
+
+    /// An instant on or beside a coarse grid, so that instants meet often.
+    pub(crate) fn instant(&mut self) -> i64 {
+        self.rng.between(-2, 18) * 50 + self.rng.pick(&[0, 0, 0, 1, -1])
+    }
+
+    pub(crate) fn remove(&mut self) {
+        let start = match self.rng.percent(25) {
+            true => 0,
+            false => self.instant().abs(),
+        };
+        let end = start + self.rng.pick(&[1, 1, 50, 100, 100, 200, 500, 0, -1]);
+        let start = self.near(start);
+        let end = match self.rng.percent(15) {
+            true => "inf".to_string(),
+            false => self.near(end),
+        };
+        self.line(format!("remove {start} {end}"));
+    }
+
+    pub(crate) fn mode(&mut self) {
+        let mode = self.rng.pick(&["segments", "sequence"]);
+        self.line(format!("mode {mode}"));
+    }
+
+    /// A setter with a time among the first few, or one that is no plain time.
+    pub(crate) fn setter(&mut self) {
+        let name = self.rng.pick(&["offset", "window-start", "window-end"]);
+        let time = match (name, self.rng.percent(15)) {
+            (_, true) => self.special(),
+            ("offset", _) => self.small_offset(),
+            ("window-end", _) if self.rng.percent(30) => "inf".to_string(),
+            ("window-end", _) => {
+                let end = self.instant() + 400;
+                self.near(end)
+            }
+            _ => {
+                let start = self.rng.pick(&[0, 0, 49, 50, 100, 101, 300]);
+                self.near(start)
+            }
+        };
+        self.line(format!("{name} {time}"));
+    }
+
+    pub(crate) fn small_offset(&mut self) -> String {
+        let offset = self.rng.pick(&[0, 0, 1, -1, 50, 100, -100, 300, 1000]);
+        self.near(offset)
+    }
+
+    pub(crate) fn report(&mut self) {
+        let mut line = match self.rng.percent(60) {
+            true => format!("ranges {}", self.track()),
+            false => "common".to_string(),
+        };
+        if self.rng.percent(15) {
+            let places = self.rng.pick(&[0, 1, 2, 3, 1024]);
+            line.push_str(&format!(" places={places}"));
+        }
+        self.line(line);
+    }
+
+    /// Any call, mostly appends.
+    pub(crate) fn any_call(&mut self) {
+        match self.rng.between(1, 100) {
+            1..=45 => self.append_on(),
+            46..=60 => self.append_anywhere(),
+            61..=68 => self.remove(),
+            69..=73 => self.line("abort"),
+            74..=77 => self.mode(),
+            78..=85 => self.setter(),
+            86..=87 => self.line("settings"),
+            88..=96 => self.report(),
+            97 => self.line("save"),
+            98 => self.line("restore"),
+            _ => self.line("state"),
+        }
+    }
+
+    /// The double for some microseconds, in one of the forms that a script may have, and now and
+    /// then not quite it.
+    pub(crate) fn near(&mut self, micros: i64) -> String {
+        match self.rng.between(1, 10) {
+            1..=6 => word(quotient(micros)),
+            7..=8 => {
+                let sign = if micros < 0 { "-" } else { "" };
+                let micros = micros.unsigned_abs();
+                format!("{sign}{}.{:06}", micros / 1_000_000, micros % 1_000_000)
+            }
+            _ => {
+                let part = self.rng.pick(&[-0.499, -0.3, 0.2, 0.4, 0.499]);
+                word((micros as f64 + part) / 1_000_000.0)
+            }
+        }
+    }
+
+    /// A double that is easily taken wrongly.
+    pub(crate) fn special(&mut self) -> String {
+        let double = match self.rng.between(1, 14) {
+            1 => f64::NAN,
+            2 => f64::from_bits(0xfff0_0000_0000_0001), // a signalling NaN below zero
+            3 => f64::INFINITY,
+            4 => f64::NEG_INFINITY,
+            5 => -0.0,
+            6 => self.rng.pick(&[5e-324, -5e-324, f64::MIN_POSITIVE]),
+            7 => self.rng.pick(&[SECONDS_LIMIT, -SECONDS_LIMIT]),
+            8 => self
+                .rng
+                .pick(&[SECONDS_LIMIT.next_up(), (-SECONDS_LIMIT).next_down()]),
+            9 => self.rng.pick(&[f64::MAX, f64::MIN]),
+            10 => f64::from_bits(self.rng.next()),
+            _ => self.half(),
+        };
+        word(double)
+    }
+
+    /// An odd multiple of 1/128 s, which is an exact half microsecond, or a neighbour of one.
+    pub(crate) fn half(&mut self) -> f64 {
+        let odd = match self.rng.percent(70) {
+            true => self.rng.between(-20, 20),
+            false => self.rng.between(-63_999_999, 63_999_999),
+        };
+        let half = (2 * odd + 1) as f64 / 128.0;
+        match self.rng.between(1, 6) {
+            1 => half.next_up(),
+            2 => half.next_down(),
+            _ => half,
+        }
+    }
+
+    /// A duration that is or is not within the limits.
+    pub(crate) fn duration_at_limit(&mut self) -> u32 {
+        self.rng.pick(&[
+            1,
+            100,
+            LONGEST_DURATION - 1,
+            LONGEST_DURATION,
+            LONGEST_DURATION + 1,
+            0,
+            u32::MAX,
+        ])
+    }
+}
+
+/// A double as a script has it.
+pub(crate) fn word(double: f64) -> String {
+    if double == f64::INFINITY {
+        return "inf".to_string();
+    }
+    script::bits(double)
+}

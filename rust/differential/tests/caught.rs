@@ -1,0 +1,277 @@
+//! Builds that are wrong in one thing each: the paper's idle ones, and the errors it has met.
+//! Every one of them must be told from `second` within a few scripts.
+
+use differential::{run, Failure, Plan};
+use script::{Declined, Poke, Second, Subject};
+use second::{
+    micros, Branch, Fate, Frame, Maybe, Mode, Offered, Reading, State, Stretch, Trace,
+    SECONDS_LIMIT,
+};
+
+/// What a build does wrongly.
+#[derive(Clone, Copy, Debug, PartialEq, Eq)]
+enum Wrong {
+    RefusesAll,
+    DropsAll,
+    ChangesNothing,
+    ForgetsTheWalk,
+    FirstPassOnly,
+    InventsACount,
+    WritesPastTheCount,
+    WritesWhenRefused,
+    MovesWhenRefused,
+    KeepsTheDouble,
+    CutsMicroseconds,
+    JoinsAcrossOne,
+    SameRangesAlways,
+    SparesTheGroup,
+    AcceptsDamage,
+    DeclinesPokes,
+}
+
+/// The build: `second`, and the wrong laid over it.
+struct Build {
+    second: Second<Breaks>,
+    wrong: Wrong,
+}
+
+/// Hears whether an append broke the group in sequence mode.
+#[derive(Default)]
+struct Breaks(bool);
+
+impl Trace for Breaks {
+    fn reach(&mut self, branch: Branch) {
+        match branch {
+            Branch::AppendBegins => self.0 = false,
+            Branch::BreakInSequence => self.0 = true,
+            _ => {}
+        }
+    }
+}
+
+impl Build {
+    fn new(wrong: Wrong) -> Self {
+        Self {
+            second: Second::default(),
+            wrong,
+        }
+    }
+}
+
+impl Subject for Build {
+    type State = State;
+
+    fn append(
+        &mut self,
+        state: &mut State,
+        offered: &Offered,
+        fates: &mut [Fate],
+    ) -> Result<usize, u32> {
+        let before = *state;
+        let result = self.second.append(state, offered, fates);
+        let Ok(count) = result else {
+            match self.wrong {
+                Wrong::WritesWhenRefused if !fates.is_empty() => fates[0] = [0, 0],
+                Wrong::MovesWhenRefused => state.head.group_end += 1,
+                _ => {}
+            }
+            return result;
+        };
+        match self.wrong {
+            Wrong::RefusesAll => {
+                *state = before;
+                return Err(4);
+            }
+            Wrong::DropsAll => {
+                let number = state.head.last_number;
+                *state = before;
+                state.head.last_number = number;
+                fates[0] = [number, 3];
+                return Ok(1);
+            }
+            Wrong::ChangesNothing => *state = before,
+            Wrong::ForgetsTheWalk => return Ok(put_back(&before, state, fates, count)),
+            Wrong::FirstPassOnly if self.second.trace.0 => {
+                *state = before;
+                return first_pass_only(&mut self.second, state, offered, fates);
+            }
+            Wrong::InventsACount => return Ok(count + 1),
+            Wrong::WritesPastTheCount if count < fates.len() => fates[count] = [0, 0],
+            Wrong::KeepsTheDouble => {
+                let offset = &mut state.head.settings.offset;
+                if offset.micros == before.head.settings.offset.micros {
+                    *offset = before.head.settings.offset;
+                }
+            }
+            _ => {}
+        }
+        result
+    }
+
+    fn remove(
+        &mut self,
+        state: &mut State,
+        start: f64,
+        end: f64,
+        fates: &mut [Fate],
+    ) -> Result<usize, u32> {
+        let before = state.head;
+        let result = self.second.remove(state, start, end, fates);
+        if self.wrong == Wrong::SparesTheGroup {
+            state.head = before;
+        }
+        result
+    }
+
+    fn set_offset(&mut self, state: &mut State, seconds: f64) -> Result<(), u32> {
+        let result = self.second.set_offset(state, seconds);
+        let offset = &mut state.head.settings.offset;
+        if self.wrong == Wrong::CutsMicroseconds && result.is_ok() {
+            offset.micros = (seconds * SECONDS_LIMIT) as i64;
+        }
+        result
+    }
+
+    fn track_ranges(
+        &mut self,
+        state: &State,
+        track: u32,
+        list: &mut [Stretch],
+    ) -> Result<usize, u32> {
+        let count = self.second.track_ranges(state, track, list)?;
+        match self.wrong {
+            Wrong::SameRangesAlways if !list.is_empty() => {
+                list[0] = [0, 100];
+                Ok(1)
+            }
+            Wrong::JoinsAcrossOne if count > 1 && list[0][1] + 1 == list[1][0] => {
+                list[0][1] = list[1][1];
+                list.copy_within(2..count, 1);
+                Ok(count - 1)
+            }
+            _ => Ok(count),
+        }
+    }
+
+    fn poke(&mut self, state: &mut State, poke: &Poke) -> Result<(), Declined> {
+        match (self.wrong, poke) {
+            (Wrong::DeclinesPokes, Poke::WindowEndDouble(_)) => Err(Declined),
+            // The damage is undone, so that the next call finds nothing wrong.
+            (Wrong::AcceptsDamage, Poke::Frames(1025)) => Ok(()),
+            _ => self.second.poke(state, poke),
+        }
+    }
+
+    fn create(&mut self, kinds: &[u32]) -> Result<State, u32> {
+        self.second.create(kinds)
+    }
+
+    fn abort(&mut self, state: &mut State) -> Result<(), u32> {
+        self.second.abort(state)
+    }
+
+    fn set_mode(&mut self, state: &mut State, mode: Mode) -> Result<(), u32> {
+        self.second.set_mode(state, mode)
+    }
+
+    fn set_window_start(&mut self, state: &mut State, seconds: f64) -> Result<(), u32> {
+        self.second.set_window_start(state, seconds)
+    }
+
+    fn set_window_end(&mut self, state: &mut State, seconds: f64) -> Result<(), u32> {
+        self.second.set_window_end(state, seconds)
+    }
+
+    fn read_settings(&mut self, state: &State) -> Result<Reading, u32> {
+        self.second.read_settings(state)
+    }
+
+    fn common_ranges(&mut self, state: &State, list: &mut [Stretch]) -> Result<usize, u32> {
+        self.second.common_ranges(state, list)
+    }
+
+    fn view(&self, state: &State) -> State {
+        self.second.view(state)
+    }
+}
+
+/// Puts the frames that went by cause 5 back into the store, and their lines out of the list.
+fn put_back(before: &State, state: &mut State, fates: &mut [Fate], count: usize) -> usize {
+    let (walked, kept): (Vec<Fate>, Vec<Fate>) =
+        fates[..count].iter().partition(|[_, cause]| *cause == 5);
+    let mut frames: Vec<Frame> = state.frames[..state.frame_count].to_vec();
+    let lost = before.frames[..before.frame_count].iter();
+    frames.extend(lost.filter(|frame| walked.iter().any(|[number, _]| *number == frame.number)));
+    frames.sort_by_key(|frame| (frame.track, frame.dts, frame.number));
+    state.frame_count = frames.len();
+    state.frames[..frames.len()].copy_from_slice(&frames);
+    fates[..kept.len()].copy_from_slice(&kept);
+    kept.len()
+}
+
+/// Breaks the group and goes on with the times of the first pass.
+fn first_pass_only(
+    second: &mut Second<Breaks>,
+    state: &mut State,
+    offered: &Offered,
+    fates: &mut [Fate],
+) -> Result<usize, u32> {
+    let head = &mut state.head;
+    let group_end = head.group_end;
+    for track in &mut head.tracks[..head.track_count] {
+        track.last_decode = Maybe::UNSET;
+        track.last_duration = Maybe::UNSET;
+        track.highest_end = Maybe::UNSET;
+        track.need_random_access = true;
+    }
+    let result = second.append(state, offered, fates);
+    state.head.group_start = Maybe::of(group_end);
+    result
+}
+
+fn put_to(wrong: Wrong) -> Result<(), Failure> {
+    let plan = Plan {
+        seed: 0,
+        scripts: 3_000,
+    };
+    let mut one: Second = Second::default();
+    run(plan, &mut one, &mut Build::new(wrong)).map(|_| ())
+}
+
+#[test]
+fn every_wrong_build_is_caught_by_a_short_script() {
+    for wrong in [
+        Wrong::RefusesAll,
+        Wrong::DropsAll,
+        Wrong::ChangesNothing,
+        Wrong::ForgetsTheWalk,
+        Wrong::FirstPassOnly,
+        Wrong::InventsACount,
+        Wrong::WritesPastTheCount,
+        Wrong::WritesWhenRefused,
+        Wrong::MovesWhenRefused,
+        Wrong::KeepsTheDouble,
+        Wrong::CutsMicroseconds,
+        Wrong::JoinsAcrossOne,
+        Wrong::SameRangesAlways,
+        Wrong::SparesTheGroup,
+        Wrong::AcceptsDamage,
+    ] {
+        let failure = put_to(wrong).expect_err("a difference");
+        println!("{wrong:?}: {failure}\n");
+        assert!(failure.script.len() <= 8, "{wrong:?}: {failure}");
+    }
+}
+
+#[test]
+fn a_build_that_declines_pokes_is_not_wrong() {
+    assert!(put_to(Wrong::DeclinesPokes).is_ok());
+}
+
+#[test]
+fn microseconds_are_cut_where_the_paper_rounds() {
+    // What makes `CutsMicroseconds` wrong, so that the test above is no accident.
+    let seconds = 0.0234375;
+    assert_eq!((seconds * SECONDS_LIMIT) as i64, 23437);
+    assert_eq!(micros(seconds), Some(23438));
+}

@@ -1,0 +1,218 @@
+//! Reading a line of a script.
+
+use std::str::FromStr;
+
+use second::{Mode, Offered, FRAME_PLACES};
+
+use crate::poke::Poke;
+
+/// A call, with the lengths of the lists lent to it.
+#[derive(Clone, Debug, PartialEq)]
+pub enum Call {
+    /// Creates a buffer in the slot in use.
+    Create(Vec<u32>),
+    /// Appends a frame.
+    Append(Offered, usize),
+    /// Removes a stretch of time.
+    Remove(f64, f64, usize),
+    /// Aborts.
+    Abort,
+    /// Sets the mode.
+    Mode(Mode),
+    /// Sets the offset.
+    Offset(f64),
+    /// Sets the window start.
+    WindowStart(f64),
+    /// Sets the window end.
+    WindowEnd(f64),
+    /// Reads the settings back.
+    Settings,
+    /// Reports a track's ranges.
+    Ranges(u32, usize),
+    /// Reports the common ranges.
+    Common(usize),
+    /// Prints the state.
+    State,
+    /// Takes a slot in use.
+    Buffer(usize),
+    /// Copies the state aside.
+    Save,
+    /// Brings the copy back.
+    Restore,
+    /// Writes a field of the state.
+    Poke(Poke),
+    /// Not built, but the lines of its frames must be passed over.
+    Batch(usize),
+}
+
+/// The lengths of lent lists, as `name=K` at the end of a call sets them.
+struct Lengths {
+    fates: usize,
+    places: usize,
+}
+
+/// No list that a script lends is longer than this; it only keeps a wild number from being lent.
+const LONGEST_LIST: usize = 1 << 20;
+
+impl Call {
+    /// Reads a line; nothing if it is not a call of the paper's.
+    pub fn read(line: &str) -> Option<Self> {
+        let mut words: Vec<&str> = line.split(' ').collect();
+        let lengths = lengths(&mut words)?;
+        Some(match *words {
+            ["create", ref kinds @ ..] => Self::Create(
+                kinds
+                    .iter()
+                    .map(|kind| whole(kind))
+                    .collect::<Option<_>>()?,
+            ),
+            ["append", track, pts, dts, duration, flagged] => Self::Append(
+                Offered {
+                    track: whole(track)?,
+                    pts: whole(pts)?,
+                    dts: whole(dts)?,
+                    duration: whole(duration)?,
+                    flagged: flag(flagged)?,
+                },
+                lengths.fates,
+            ),
+            ["remove", start, end] => Self::Remove(seconds(start)?, seconds(end)?, lengths.fates),
+            ["abort"] => Self::Abort,
+            ["mode", word] => Self::Mode(mode(word)?),
+            ["offset", time] => Self::Offset(seconds(time)?),
+            ["window-start", time] => Self::WindowStart(seconds(time)?),
+            ["window-end", time] => Self::WindowEnd(seconds(time)?),
+            ["settings"] => Self::Settings,
+            ["ranges", track] => Self::Ranges(whole(track)?, lengths.places),
+            ["common"] => Self::Common(lengths.places),
+            ["state"] => Self::State,
+            ["buffer", "1"] => Self::Buffer(0),
+            ["buffer", "2"] => Self::Buffer(1),
+            ["save"] => Self::Save,
+            ["restore"] => Self::Restore,
+            ["poke", ref words @ ..] => Self::Poke(Poke::read(words)?),
+            ["batch", count] => Self::Batch(whole(count)?),
+            _ => return None,
+        })
+    }
+}
+
+/// Takes the words `name=K` off the end.
+fn lengths(words: &mut Vec<&str>) -> Option<Lengths> {
+    let mut lengths = Lengths {
+        fates: FRAME_PLACES,
+        places: 4096,
+    };
+    while let Some((name, count)) = words.last().and_then(|word| word.split_once('=')) {
+        let count = whole(count).filter(|&count| count <= LONGEST_LIST)?;
+        match name {
+            "fates" => lengths.fates = count,
+            "places" => lengths.places = count,
+            "places2" | "buffer" => {} // lent to calls that are not built
+            _ => return None,
+        }
+        words.pop();
+    }
+    Some(lengths)
+}
+
+/// A whole number in decimal.
+pub(crate) fn whole<N: FromStr>(word: &str) -> Option<N> {
+    let digits = word.strip_prefix('-').unwrap_or(word);
+    if !digits.bytes().all(|digit| digit.is_ascii_digit()) {
+        return None;
+    }
+    word.parse().ok()
+}
+
+/// `1` or `0`.
+pub(crate) fn flag(word: &str) -> Option<bool> {
+    match word {
+        "1" => Some(true),
+        "0" => Some(false),
+        _ => None,
+    }
+}
+
+/// A mode by its name.
+pub(crate) fn mode(word: &str) -> Option<Mode> {
+    match word {
+        "segments" => Some(Mode::Segments),
+        "sequence" => Some(Mode::Sequence),
+        _ => None,
+    }
+}
+
+/// A double: its bits, one of the words for what is not finite, or a plain decimal.
+pub(crate) fn seconds(word: &str) -> Option<f64> {
+    if let Some(digits) = word.strip_prefix("0x") {
+        let hexadecimal = digits.len() == 16 && digits.bytes().all(|d| d.is_ascii_hexdigit());
+        return hexadecimal
+            .then(|| u64::from_str_radix(digits, 16).ok())?
+            .map(f64::from_bits);
+    }
+    match word {
+        "inf" => Some(f64::INFINITY),
+        "-inf" => Some(f64::NEG_INFINITY),
+        "nan" => Some(f64::NAN),
+        _ => {
+            let digits = word.strip_prefix('-').unwrap_or(word);
+            let plain = digits.bytes().all(|d| d.is_ascii_digit() || d == b'.');
+            plain.then(|| word.parse().ok())?
+        }
+    }
+}
+
+#[cfg(test)]
+mod tests {
+    use super::*;
+
+    #[test]
+    fn doubles_in_every_form() {
+        assert_eq!(seconds("0x3ff0000000000000"), Some(1.0));
+        assert_eq!(seconds("-inf"), Some(f64::NEG_INFINITY));
+        assert!(seconds("nan").is_some_and(f64::is_nan));
+        assert_eq!(seconds("0.00015"), Some(0.00015));
+        assert_eq!(seconds("-1000000"), Some(-1_000_000.0));
+        for bad in [
+            "",
+            "-",
+            ".",
+            "1e3",
+            "+1",
+            "0x3ff",
+            "infinity",
+            "0x+ff0000000000000",
+        ] {
+            assert_eq!(seconds(bad), None, "{bad}");
+        }
+    }
+
+    #[test]
+    fn lengths_in_any_order() {
+        assert_eq!(Call::read("common places=7 fates=3"), Some(Call::Common(7)));
+        assert_eq!(Call::read("common fates=3 places=7"), Some(Call::Common(7)));
+        assert_eq!(Call::read("common"), Some(Call::Common(4096)));
+        assert_eq!(Call::read("common place=7"), None);
+    }
+
+    #[test]
+    fn what_is_not_a_call() {
+        for bad in [
+            "seek 1 0",
+            "append 1 0 0 100",
+            "append 1 0 0 100 2",
+            "append 1 +0 0 100 1",
+            "append 1 0 0 -1 1",
+            "mode both",
+            "buffer 3",
+            "poke group 1",
+            "poke track 5 kind 0",
+            "poke frame 0 p 0",
+            "poke group-start unsettled",
+            " state",
+        ] {
+            assert_eq!(Call::read(bad), None, "{bad}");
+        }
+    }
+}

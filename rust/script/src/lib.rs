@@ -1,0 +1,22 @@
+//! Scripts of calls in the line protocol of the program `replay`, put to any implementation of
+//! the frame buffer: one call a line, one answer a line.
+//!
+//! An implementation takes part by its [`Subject`]. The words of the paper that both sides need
+//! (a frame as offered, a mode, a whole state to look at) are those of the crate `second`.
+
+#![forbid(unsafe_code)]
+
+mod call;
+mod lent;
+mod poke;
+mod print;
+mod proved;
+mod session;
+mod subject;
+
+pub use call::Call;
+pub use poke::{FrameField, Poke, TrackField};
+pub use print::{bits, state_line};
+pub use proved::Proved;
+pub use session::Session;
+pub use subject::{Declined, Second, Subject};

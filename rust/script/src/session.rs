@@ -1,0 +1,208 @@
+//! A session: two slots for buffers, one saved state, and the lists that are lent.
+
+use second::{Fate, Reading, Stretch, WindowEnd};
+
+use crate::call::Call;
+use crate::lent::Lent;
+use crate::print::{bits, state_line};
+use crate::subject::{Declined, Subject};
+
+/// Numbers that no call writes, neither in fate lines nor in ranges.
+const FATE_MARK: Fate = [0xdead_beef, 0xfeed_f00d];
+const STRETCH_MARK: Stretch = [i64::MAX, i64::MIN];
+
+/// A session with an implementation.
+pub struct Session<'a, S: Subject> {
+    subject: &'a mut S,
+    slots: [Option<S::State>; 2],
+    in_use: usize,
+    saved: Option<S::State>,
+    fates: Lent<Fate>,
+    ranges: Lent<Stretch>,
+    /// Lines of a batch still to be passed over.
+    batch: usize,
+}
+
+impl<'a, S: Subject> Session<'a, S> {
+    /// A session at its start.
+    pub fn new(subject: &'a mut S) -> Self {
+        Self {
+            subject,
+            slots: [None, None],
+            in_use: 0,
+            saved: None,
+            fates: Lent::new(FATE_MARK),
+            ranges: Lent::new(STRETCH_MARK),
+            batch: 0,
+        }
+    }
+
+    /// The answer to a line, if it has one.
+    pub fn answer(&mut self, line: &str) -> Option<String> {
+        if line.is_empty() || line.starts_with('#') || self.is_of_batch(line) {
+            return None;
+        }
+        let answer = match Call::read(line) {
+            Some(call) => self.carry_out(call).unwrap_or_else(|| "none".to_string()),
+            None => "unknown".to_string(),
+        };
+        Some(answer)
+    }
+
+    /// The state in the slot in use.
+    pub fn state(&self) -> Option<&S::State> {
+        self.slots[self.in_use].as_ref()
+    }
+
+    /// Puts a state into the slot in use.
+    pub fn set_state(&mut self, state: S::State) {
+        self.slots[self.in_use] = Some(state);
+    }
+
+    /// The state in the slot in use, as its subject shows it.
+    pub fn view(&self) -> Option<second::State> {
+        self.state().map(|state| self.subject.view(state))
+    }
+
+    /// Whether the subject takes the state in the slot in use for a well-formed one.
+    pub fn is_well_formed(&mut self) -> bool {
+        let state = self.slots[self.in_use].as_ref();
+        state.is_some_and(|state| self.subject.read_settings(state).is_ok())
+    }
+
+    fn is_of_batch(&mut self, line: &str) -> bool {
+        let is = self.batch > 0 && line.starts_with("frame");
+        self.batch = if is { self.batch - 1 } else { 0 };
+        is
+    }
+
+    /// Makes a call; nothing if it needs a state and there is none.
+    fn carry_out(&mut self, call: Call) -> Option<String> {
+        let subject = &mut *self.subject;
+        let slot = &mut self.slots[self.in_use];
+        Some(match call {
+            Call::Create(kinds) => done(subject.create(&kinds).map(|state| *slot = Some(state))),
+            Call::Append(offered, length) => {
+                let result = subject.append(slot.as_mut()?, &offered, self.fates.lend(length));
+                self.fates.answer(result, "fates", fate)
+            }
+            Call::Remove(start, end, length) => {
+                let result = subject.remove(slot.as_mut()?, start, end, self.fates.lend(length));
+                self.fates.answer(result, "fates", fate)
+            }
+            Call::Abort => done(subject.abort(slot.as_mut()?)),
+            Call::Mode(mode) => done(subject.set_mode(slot.as_mut()?, mode)),
+            Call::Offset(time) => done(subject.set_offset(slot.as_mut()?, time)),
+            Call::WindowStart(time) => done(subject.set_window_start(slot.as_mut()?, time)),
+            Call::WindowEnd(time) => done(subject.set_window_end(slot.as_mut()?, time)),
+            Call::Settings => settings(subject.read_settings(slot.as_ref()?)),
+            Call::Ranges(track, length) => {
+                let list = self.ranges.lend(length);
+                let result = subject.track_ranges(slot.as_ref()?, track, list);
+                self.ranges.answer(result, "ranges", stretch)
+            }
+            Call::Common(length) => {
+                let result = subject.common_ranges(slot.as_ref()?, self.ranges.lend(length));
+                self.ranges.answer(result, "ranges", stretch)
+            }
+            Call::State => state_line(&subject.view(slot.as_ref()?)),
+            Call::Buffer(number) => {
+                self.in_use = number;
+                done(Ok(()))
+            }
+            Call::Save => {
+                self.saved = Some(slot.clone()?);
+                done(Ok(()))
+            }
+            Call::Restore => {
+                *slot = Some(self.saved.clone()?);
+                done(Ok(()))
+            }
+            Call::Poke(poke) => match subject.poke(slot.as_mut()?, &poke) {
+                Ok(()) => done(Ok(())),
+                Err(Declined) => "declined".to_string(),
+            },
+            Call::Batch(frames) => {
+                self.batch = frames;
+                "unknown".to_string()
+            }
+        })
+    }
+}
+
+fn done(result: Result<(), u32>) -> String {
+    match result {
+        Ok(()) => "ok".to_string(),
+        Err(refusal) => format!("refused {refusal}"),
+    }
+}
+
+fn settings(result: Result<Reading, u32>) -> String {
+    match result {
+        Ok(reading) => format!(
+            "ok settings {} {} {}",
+            bits(reading.offset),
+            bits(reading.window_start),
+            match reading.window_end {
+                WindowEnd::Unbounded => "unbounded".to_string(),
+                WindowEnd::Seconds(end) => bits(end),
+            }
+        ),
+        Err(refusal) => done(Err(refusal)),
+    }
+}
+
+fn fate(line: &Fate) -> String {
+    let [number, cause] = line;
+    format!("({number},{cause})")
+}
+
+fn stretch(stretch: &Stretch) -> String {
+    let [start, end] = stretch;
+    format!("[{start},{end})")
+}
+
+#[cfg(test)]
+mod tests {
+    use super::*;
+    use crate::subject::Second;
+
+    fn answers(script: &str) -> Vec<String> {
+        let mut subject: Second = Second::default();
+        let mut session = Session::new(&mut subject);
+        let lines = script.lines();
+        lines.filter_map(|line| session.answer(line)).collect()
+    }
+
+    #[test]
+    fn calls_without_a_state() {
+        let script = "abort\nsave\nrestore\npoke group-end 0\nstate\ncreate 2\nstate";
+        let wanted = ["none", "none", "none", "none", "none", "refused 11", "none"];
+        assert_eq!(answers(script), wanted);
+    }
+
+    #[test]
+    fn slots_and_the_saved_state() {
+        let script = "create 0\nmode sequence\nsave\nbuffer 2\nsettings\nrestore\nstate";
+        let state = "ok state tracks=0 last=0 mode=sequence group-start=0 group-end=0 \
+                     offset=0/0x0000000000000000 window-start=0/0x0000000000000000 \
+                     window-end=unbounded track1=unset,unset,unset,need frames=0";
+        assert_eq!(
+            answers(script),
+            ["ok", "ok", "ok", "ok", "none", "ok", state]
+        );
+    }
+
+    #[test]
+    fn calls_that_are_not_built() {
+        let script = "create 0\n\n# a comment\nbatch 2\nframe 1 0 0 1 1\nframe 1 1 1 1 0\nabort";
+        assert_eq!(answers(script), ["ok", "unknown", "ok"]);
+        assert_eq!(answers("walked 1\nframe 1 0 0 1 1"), ["unknown", "unknown"]);
+    }
+
+    #[test]
+    fn a_poke_that_no_state_can_hold() {
+        let script = "create 0\npoke last-number 4294967296\npoke frames 1025\nabort";
+        assert_eq!(answers(script), ["ok", "declined", "ok", "refused 1"]);
+    }
+}

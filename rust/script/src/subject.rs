@@ -1,0 +1,218 @@
+//! What an implementation must offer to be driven by scripts, and how `second` offers it.
+
+use std::num::TryFromIntError;
+
+use second::{
+    Fate, Maybe, Mode, Offered, Reading, Refusal, State, Stretch, Trace, FRAME_PLACES, TRACK_PLACES,
+};
+
+use crate::poke::{FrameField, Poke, TrackField};
+
+/// An implementation of the buffer. A refusal is its number, as one never heard of must be shown
+/// as well.
+pub trait Subject {
+    /// The buffer, a plain value.
+    type State: Clone;
+
+    /// Creates a buffer.
+    fn create(&mut self, kinds: &[u32]) -> Result<Self::State, u32>;
+    /// Appends a frame.
+    fn append(
+        &mut self,
+        state: &mut Self::State,
+        offered: &Offered,
+        fates: &mut [Fate],
+    ) -> Result<usize, u32>;
+    /// Removes a stretch of time.
+    fn remove(
+        &mut self,
+        state: &mut Self::State,
+        start: f64,
+        end: f64,
+        fates: &mut [Fate],
+    ) -> Result<usize, u32>;
+    /// Aborts.
+    fn abort(&mut self, state: &mut Self::State) -> Result<(), u32>;
+    /// Sets the mode.
+    fn set_mode(&mut self, state: &mut Self::State, mode: Mode) -> Result<(), u32>;
+    /// Sets the offset.
+    fn set_offset(&mut self, state: &mut Self::State, seconds: f64) -> Result<(), u32>;
+    /// Sets the window start.
+    fn set_window_start(&mut self, state: &mut Self::State, seconds: f64) -> Result<(), u32>;
+    /// Sets the window end.
+    fn set_window_end(&mut self, state: &mut Self::State, seconds: f64) -> Result<(), u32>;
+    /// Reads the settings back.
+    fn read_settings(&mut self, state: &Self::State) -> Result<Reading, u32>;
+    /// Reports a track's ranges.
+    fn track_ranges(
+        &mut self,
+        state: &Self::State,
+        track: u32,
+        list: &mut [Stretch],
+    ) -> Result<usize, u32>;
+    /// Reports the ranges common to all tracks.
+    fn common_ranges(&mut self, state: &Self::State, list: &mut [Stretch]) -> Result<usize, u32>;
+
+    /// The state as it lies, in the words of `second`; not a call of the buffer.
+    fn view(&self, state: &Self::State) -> State;
+    /// Writes one field of the state as it lies; not a call of the buffer.
+    fn poke(&mut self, state: &mut Self::State, poke: &Poke) -> Result<(), Declined>;
+}
+
+/// A state cannot hold what a poke asks.
+#[derive(Clone, Copy, Debug, PartialEq, Eq)]
+pub struct Declined;
+
+impl From<TryFromIntError> for Declined {
+    fn from(_: TryFromIntError) -> Self {
+        Self
+    }
+}
+
+/// The crate `second`, with the trace that hears its branches.
+#[derive(Clone, Debug, Default)]
+pub struct Second<T = ()> {
+    /// The trace.
+    pub trace: T,
+}
+
+fn numbered<A>(result: Result<A, Refusal>) -> Result<A, u32> {
+    result.map_err(Refusal::number)
+}
+
+impl<T: Trace> Subject for Second<T> {
+    type State = State;
+
+    fn create(&mut self, kinds: &[u32]) -> Result<State, u32> {
+        numbered(second::create(kinds))
+    }
+
+    fn append(
+        &mut self,
+        state: &mut State,
+        offered: &Offered,
+        fates: &mut [Fate],
+    ) -> Result<usize, u32> {
+        numbered(second::append_traced(
+            state,
+            offered,
+            fates,
+            &mut self.trace,
+        ))
+    }
+
+    fn remove(
+        &mut self,
+        state: &mut State,
+        start: f64,
+        end: f64,
+        fates: &mut [Fate],
+    ) -> Result<usize, u32> {
+        numbered(second::remove_traced(
+            state,
+            start,
+            end,
+            fates,
+            &mut self.trace,
+        ))
+    }
+
+    fn abort(&mut self, state: &mut State) -> Result<(), u32> {
+        numbered(second::abort(state))
+    }
+
+    fn set_mode(&mut self, state: &mut State, mode: Mode) -> Result<(), u32> {
+        numbered(second::set_mode(state, mode))
+    }
+
+    fn set_offset(&mut self, state: &mut State, seconds: f64) -> Result<(), u32> {
+        numbered(second::set_offset(state, seconds))
+    }
+
+    fn set_window_start(&mut self, state: &mut State, seconds: f64) -> Result<(), u32> {
+        numbered(second::set_window_start(state, seconds))
+    }
+
+    fn set_window_end(&mut self, state: &mut State, seconds: f64) -> Result<(), u32> {
+        numbered(second::set_window_end(state, seconds))
+    }
+
+    fn read_settings(&mut self, state: &State) -> Result<Reading, u32> {
+        numbered(second::read_settings(state))
+    }
+
+    fn track_ranges(
+        &mut self,
+        state: &State,
+        track: u32,
+        list: &mut [Stretch],
+    ) -> Result<usize, u32> {
+        numbered(second::track_ranges(state, track, list))
+    }
+
+    fn common_ranges(&mut self, state: &State, list: &mut [Stretch]) -> Result<usize, u32> {
+        numbered(second::common_ranges(state, list))
+    }
+
+    fn view(&self, state: &State) -> State {
+        *state
+    }
+
+    fn poke(&mut self, state: &mut State, poke: &Poke) -> Result<(), Declined> {
+        let head = &mut state.head;
+        let settings = &mut head.settings;
+        match *poke {
+            Poke::LastNumber(number) => head.last_number = number.try_into()?,
+            Poke::Mode(mode) => head.mode = mode,
+            Poke::GroupStart(start) => head.group_start = start,
+            Poke::GroupEnd(end) => head.group_end = end,
+            Poke::OffsetMicros(micros) => settings.offset.micros = micros,
+            Poke::OffsetDouble(double) => settings.offset.double = double,
+            Poke::WindowStartMicros(micros) => settings.window_start.micros = micros,
+            Poke::WindowStartDouble(double) => settings.window_start.double = double,
+            Poke::WindowEndMicros(Maybe { set, value }) => {
+                settings.window_end.bounded = set;
+                settings.window_end.time.micros = value;
+            }
+            Poke::WindowEndDouble(double) => settings.window_end.time.double = double,
+            Poke::Tracks(count) => head.track_count = count.try_into()?,
+            Poke::Track(place, field) => poke_track(&mut head.tracks, place, field)?,
+            Poke::Frames(count) => state.frame_count = count.try_into()?,
+            Poke::Frame(place, field) => poke_frame(&mut state.frames, place, field)?,
+        }
+        Ok(())
+    }
+}
+
+fn poke_track(
+    tracks: &mut [second::Track; TRACK_PLACES],
+    place: usize,
+    field: TrackField,
+) -> Result<(), Declined> {
+    let track = tracks.get_mut(place).ok_or(Declined)?;
+    match field {
+        TrackField::Kind(kind) => track.kind = kind.try_into()?,
+        TrackField::LastDecode(time) => track.last_decode = time,
+        TrackField::LastDuration(duration) => track.last_duration = duration,
+        TrackField::HighestEnd(time) => track.highest_end = time,
+        TrackField::Need(need) => track.need_random_access = need,
+    }
+    Ok(())
+}
+
+fn poke_frame(
+    frames: &mut [second::Frame; FRAME_PLACES],
+    place: usize,
+    field: FrameField,
+) -> Result<(), Declined> {
+    let frame = frames.get_mut(place).ok_or(Declined)?;
+    match field {
+        FrameField::Track(track) => frame.track = track.try_into()?,
+        FrameField::Presentation(time) => frame.pts = time,
+        FrameField::Decode(time) => frame.dts = time,
+        FrameField::Duration(duration) => frame.duration = duration.try_into()?,
+        FrameField::Flag(flag) => frame.flagged = flag,
+        FrameField::Number(number) => frame.number = number.try_into()?,
+    }
+    Ok(())
+}

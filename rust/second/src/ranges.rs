@@ -1,0 +1,83 @@
+//! "The bar on the timeline": the stretches that a track's frames cover, and those that all do.
+
+use crate::refusal::Refusal;
+use crate::state::State;
+use crate::well_formed::check;
+
+/// A stretch of time: its start, and its end that no longer belongs to it.
+pub type Stretch = [i64; 2];
+
+/// Writes a track's ranges in rising order; gives their count.
+pub fn track_ranges(state: &State, track: u32, list: &mut [Stretch]) -> Result<usize, Refusal> {
+    check(state)?;
+    state.head.track_index(track)?;
+    hand_out(&covered(state, track), list)
+}
+
+/// Writes the ranges that all tracks cover in rising order; gives their count.
+pub fn common_ranges(state: &State, list: &mut [Stretch]) -> Result<usize, Refusal> {
+    check(state)?;
+    let common = state
+        .head
+        .track_numbers()
+        .map(|track| covered(state, track))
+        .reduce(|ones, others| shared(&ones, &others))
+        .unwrap_or_default();
+    hand_out(&common, list)
+}
+
+/// Refusal 10, or the ranges and nothing past them.
+fn hand_out(ranges: &[Stretch], list: &mut [Stretch]) -> Result<usize, Refusal> {
+    let places = list.get_mut(..ranges.len()).ok_or(Refusal::ShortRanges)?;
+    places.copy_from_slice(ranges);
+    Ok(ranges.len())
+}
+
+/// The widest unbroken stretches of a track. Frames mostly come in order and join as they come;
+/// only what is left in pieces out of order has to be sorted and joined again.
+fn covered(state: &State, track: u32) -> Vec<Stretch> {
+    let frames = &state.frames[state.places_of(track)];
+    let mut stretches = join(frames.iter().map(|frame| [frame.pts, frame.end()]));
+    if !stretches.is_sorted() {
+        stretches.sort_unstable();
+        stretches = join(stretches.into_iter());
+    }
+    stretches
+}
+
+/// Joins each stretch to the one before if it starts within that or right at its end.
+fn join(mut stretches: impl Iterator<Item = Stretch>) -> Vec<Stretch> {
+    let mut joined = Vec::new();
+    let Some([mut start, mut end]) = stretches.next() else {
+        return joined;
+    };
+    for [next_start, next_end] in stretches {
+        if (start..=end).contains(&next_start) {
+            end = end.max(next_end);
+        } else {
+            joined.push([start, end]);
+            [start, end] = [next_start, next_end];
+        }
+    }
+    joined.push([start, end]);
+    joined
+}
+
+/// What two lists of ranges share, by walking both at once.
+fn shared(ones: &[Stretch], others: &[Stretch]) -> Vec<Stretch> {
+    let mut both = Vec::new();
+    let (mut ones, mut others) = (ones.iter().peekable(), others.iter().peekable());
+    while let (Some(one), Some(other)) = (ones.peek(), others.peek()) {
+        let (start, end) = (one[0].max(other[0]), one[1].min(other[1]));
+        if start < end {
+            both.push([start, end]);
+        }
+        // The one that ends first can share nothing more.
+        if one[1] <= other[1] {
+            ones.next();
+        } else {
+            others.next();
+        }
+    }
+    both
+}

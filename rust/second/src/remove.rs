@@ -1,0 +1,126 @@
+//! "Removing, aborting, setting": the removal of a stretch of time, and the abort.
+
+use crate::refusal::{Cause, Fate, Refusal};
+use crate::settings::{End, Seconds};
+use crate::state::{Frame, Maybe, Mode, State};
+use crate::store::{check_fates, take_out};
+use crate::trace::{Branch, Trace};
+use crate::well_formed::{check, well_formed};
+
+/// Removes the frames presented from `start` up to the first random access point at or after
+/// `end`, track by track, and those that follow them; gives the count of fate lines.
+pub fn remove(
+    state: &mut State,
+    start: f64,
+    end: f64,
+    fates: &mut [Fate],
+) -> Result<usize, Refusal> {
+    remove_traced(state, start, end, fates, &mut ())
+}
+
+/// [`remove`], telling its branches.
+pub fn remove_traced<T: Trace>(
+    state: &mut State,
+    start: f64,
+    end: f64,
+    fates: &mut [Fate],
+    trace: &mut T,
+) -> Result<usize, Refusal> {
+    if let Err(fault) = well_formed(state) {
+        trace.fault(fault);
+        return Err(Refusal::IllFormed);
+    }
+    check_fates(fates)?;
+    let start = Seconds::given(start)?.micros;
+    let end = End::given(end)?;
+    if start < 0 || !end.is_after(start) {
+        return Err(Refusal::Order);
+    }
+    trace.reach(Branch::RemoveBegins);
+    if !end.bounded {
+        trace.reach(Branch::RemoveUnbounded);
+    }
+
+    let mut count = 0;
+    let mut last_lost = None;
+    for track in state.head.track_numbers() {
+        let lines = &mut fates[count..];
+        let (lost, last) = remove_from(state, track, start, end.micros(), lines, trace);
+        count += lost;
+        last_lost = last_lost.or(last);
+    }
+    if count == 0 {
+        trace.reach(Branch::RemoveNone);
+    }
+    if let Some((pts, cause)) = last_lost {
+        trace.reach(match cause {
+            Cause::Follows => Branch::RemoveLosesFollowing,
+            _ => Branch::RemoveLosesTaken,
+        });
+        state.head.break_group(pts, trace);
+    }
+    Ok(count)
+}
+
+/// Removes from one track: gives the count of fate lines, and presentation time and cause of the
+/// first frame lost, in their order, whose decode time is the track's last.
+fn remove_from<T: Trace>(
+    state: &mut State,
+    track: u32,
+    start: i64,
+    end: Option<i64>,
+    fates: &mut [Fate],
+    trace: &mut T,
+) -> (usize, Option<(i64, Cause)>) {
+    let last_decode = state.head.tracks[track as usize - 1].last_decode.get();
+    let places = state.places_of(track);
+    let frames = &mut state.frames[places.clone()];
+    let taken = start..far_edge(frames, end, trace);
+    let mut count = 0;
+    let mut last_lost = None;
+    let kept = take_out(
+        frames,
+        &taken,
+        Cause::Removed,
+        trace,
+        |frame, cause, _trace| {
+            fates[count] = cause.line(frame.number);
+            count += 1;
+            if last_lost.is_none() && last_decode == Some(frame.dts) {
+                last_lost = Some((frame.pts, cause));
+            }
+        },
+    );
+    state.close(places.start + kept..places.end);
+    (count, last_lost)
+}
+
+/// The smallest presentation time of a flagged frame at or after the end; without one, a time
+/// that no frame reaches.
+fn far_edge<T: Trace>(frames: &[Frame], end: Option<i64>, trace: &mut T) -> i64 {
+    let edge = end.and_then(|end| {
+        frames
+            .iter()
+            .filter(|frame| frame.flagged && frame.pts >= end)
+            .map(|frame| frame.pts)
+            .min()
+    });
+    trace.reach(match edge {
+        Some(_) => Branch::RemoveEdge,
+        None => Branch::RemoveNoEdge,
+    });
+    edge.unwrap_or(i64::MAX)
+}
+
+/// Ends the group and opens the window; the offset stays.
+pub fn abort(state: &mut State) -> Result<(), Refusal> {
+    check(state)?;
+    let head = &mut state.head;
+    head.unset_everywhere();
+    if head.mode == Mode::Sequence {
+        head.group_start = Maybe::of(head.group_end);
+    }
+    head.settings.window_start = Seconds::default();
+    head.settings.window_end = End::default();
+    Ok(())
+}

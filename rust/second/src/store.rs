@@ -1,0 +1,86 @@
+//! The store: a track's frames, putting one in, and the walk of step 8 that takes some out.
+
+use std::ops::Range;
+
+use crate::refusal::{Cause, Fate, Refusal};
+use crate::state::{Frame, State, FRAME_PLACES};
+use crate::trace::{Branch, Trace};
+
+/// Refusal 2.
+pub(crate) fn check_fates(fates: &[Fate]) -> Result<(), Refusal> {
+    if fates.len() < FRAME_PLACES {
+        return Err(Refusal::ShortFates);
+    }
+    Ok(())
+}
+
+impl State {
+    /// The frames of all tracks, in store order.
+    pub(crate) fn stored(&self) -> &[Frame] {
+        &self.frames[..self.frame_count]
+    }
+
+    /// The places of a track's frames: one stretch, as the store is sorted by track first.
+    pub(crate) fn places_of(&self, track: u32) -> Range<usize> {
+        let stored = self.stored();
+        let start = stored.partition_point(|frame| frame.track < track);
+        let end = stored.partition_point(|frame| frame.track <= track);
+        start..end
+    }
+
+    /// Puts a frame in, after its equals in decode time, as its number is the highest; gives its
+    /// place. There must be room.
+    pub(crate) fn insert(&mut self, frame: Frame) -> usize {
+        let place = self
+            .stored()
+            .partition_point(|old| (old.track, old.dts) <= (frame.track, frame.dts));
+        self.frames.copy_within(place..self.frame_count, place + 1);
+        self.frames[place] = frame;
+        self.frame_count += 1;
+        place
+    }
+
+    /// Closes places that no longer hold a frame, and leaves zeros at the end.
+    pub(crate) fn close(&mut self, places: Range<usize>) {
+        let count = self.frame_count - places.len();
+        self.frames
+            .copy_within(places.end..self.frame_count, places.start);
+        self.frames[count..self.frame_count].fill(Frame::default());
+        self.frame_count = count;
+    }
+}
+
+/// Takes those of a track's frames out that are presented in `taken`, by `cause`, and with them,
+/// by cause 5, the unflagged frames after one of them and before the next flagged frame that
+/// stays (step 8). Each goes to `lost`; those that stay are moved to the front and counted.
+pub(crate) fn take_out<T: Trace>(
+    frames: &mut [Frame],
+    taken: &Range<i64>,
+    cause: Cause,
+    trace: &mut T,
+    mut lost: impl FnMut(&Frame, Cause, &mut T),
+) -> usize {
+    let Some(first) = frames.iter().position(|frame| taken.contains(&frame.pts)) else {
+        return frames.len();
+    };
+    let mut kept = first;
+    let mut follows = false;
+    for place in first..frames.len() {
+        let frame = frames[place];
+        if taken.contains(&frame.pts) {
+            lost(&frame, cause, trace);
+            follows = true;
+        } else if follows && !frame.flagged {
+            trace.reach(Branch::Step8Takes);
+            lost(&frame, Cause::Follows, trace);
+        } else {
+            if follows {
+                trace.reach(Branch::Step8Stops);
+            }
+            follows = false;
+            frames[kept] = frame;
+            kept += 1;
+        }
+    }
+    kept
+}

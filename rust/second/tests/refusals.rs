@@ -1,0 +1,112 @@
+//! The order in which refusals are given: of several that apply, the first of the paper's list.
+
+use second::{
+    append, common_ranges, create, remove, set_offset, set_window_end, set_window_start,
+    track_ranges, Offered, Refusal, State, FRAME_PLACES, OFFERED_LIMIT, RESULT_LIMIT,
+};
+
+const GOOD: Offered = Offered {
+    track: 1,
+    pts: 0,
+    dts: 0,
+    duration: 100,
+    flagged: true,
+};
+
+fn fresh() -> State {
+    create(&[0]).expect("one track")
+}
+
+#[test]
+fn append_gives_1_2_3_4_9_7() {
+    let mut state = fresh();
+    state.head.last_number = u32::MAX;
+    state.head.settings.offset.micros = RESULT_LIMIT;
+    state.head.settings.offset.double = 4_000_000.0;
+    state.head.track_count = 5;
+    let mut offered = Offered {
+        track: 2,
+        pts: OFFERED_LIMIT + 1,
+        ..GOOD
+    };
+    let mut fates = vec![[0; 2]; FRAME_PLACES];
+    let mut say = |state: &State, offered: &Offered, lines: usize| {
+        let mut after = *state;
+        let refusal = append(&mut after, offered, &mut fates[..lines]).expect_err("a refusal");
+        assert_eq!(after, *state);
+        refusal.number()
+    };
+    assert_eq!(say(&state, &offered, 1023), 1);
+    state.head.track_count = 1;
+    assert_eq!(say(&state, &offered, 1023), 2);
+    assert_eq!(say(&state, &offered, 1024), 3);
+    offered.track = 1;
+    assert_eq!(say(&state, &offered, 1024), 4);
+    offered.pts = OFFERED_LIMIT;
+    assert_eq!(say(&state, &offered, 1024), 9);
+    state.head.last_number -= 1;
+    assert_eq!(say(&state, &offered, 1024), 7);
+}
+
+#[test]
+fn remove_gives_2_5_6() {
+    let mut state = fresh();
+    let mut fates = vec![[0; 2]; FRAME_PLACES];
+    let mut say = |start, end, lines| {
+        let refusal = remove(&mut state, start, end, &mut fates[..lines]);
+        refusal.expect_err("a refusal").number()
+    };
+    assert_eq!(say(-1.0, f64::NAN, 1023), 2);
+    assert_eq!(say(-1.0, f64::NAN, 1024), 5);
+    assert_eq!(say(f64::INFINITY, f64::INFINITY, 1024), 5);
+    assert_eq!(say(-1.0, f64::INFINITY, 1024), 6);
+    assert_eq!(say(0.0001, 0.0001004, 1024), 6);
+}
+
+#[test]
+fn setters_give_5_6() {
+    let mut state = fresh();
+    set_window_end(&mut state, 1.0).expect("a window end");
+    set_window_start(&mut state, 0.5).expect("a window start");
+    assert_eq!(set_offset(&mut state, f64::INFINITY), Err(Refusal::Seconds));
+    for (start, refusal) in [
+        (f64::INFINITY, Refusal::Seconds),
+        (-1_000_001.0, Refusal::Seconds),
+        (-1.0, Refusal::Order),
+        (1.0, Refusal::Order),
+    ] {
+        assert_eq!(set_window_start(&mut state, start), Err(refusal), "{start}");
+    }
+    for (end, refusal) in [
+        (f64::NEG_INFINITY, Refusal::Seconds),
+        (0.5, Refusal::Order),
+        (-1.0, Refusal::Order),
+    ] {
+        assert_eq!(set_window_end(&mut state, end), Err(refusal), "{end}");
+    }
+    assert_eq!(set_window_start(&mut state, -0.0), Ok(()));
+    assert!(state.head.settings.window_start.double.is_sign_negative());
+    assert_eq!(set_window_end(&mut state, f64::INFINITY), Ok(()));
+}
+
+#[test]
+fn reports_give_3_10() {
+    let mut state = fresh();
+    let mut fates = vec![[0; 2]; FRAME_PLACES];
+    assert_eq!(track_ranges(&state, 1, &mut []), Ok(0));
+    append(&mut state, &GOOD, &mut fates).expect("accepted");
+    for track in [0, 2, u32::MAX] {
+        let refusal = Err(Refusal::UnknownTrack);
+        assert_eq!(track_ranges(&state, track, &mut []), refusal);
+    }
+    assert_eq!(track_ranges(&state, 1, &mut []), Err(Refusal::ShortRanges));
+    assert_eq!(common_ranges(&state, &mut []), Err(Refusal::ShortRanges));
+    assert_eq!(common_ranges(&state, &mut [[0; 2]]), Ok(1));
+}
+
+#[test]
+fn creation_gives_11() {
+    for kinds in [&[][..], &[0; 5], &[2], &[0, u32::MAX]] {
+        assert_eq!(create(kinds), Err(Refusal::Creation), "{kinds:?}");
+    }
+}
