@@ -1,5 +1,7 @@
 // The state of a frame buffer, by value, and what its calls are handed and answer.
 // What each call does to it is defined in specs/, a file for each section of document 01.
+ghost use mathlib.Core.Path.{_≡_};
+ghost use Rattle.buffer_state.specs.Refusals.{refusalNumber};
 
 // A coded frame as offered to an append. Times are microseconds.
 pub struct Offered {
@@ -86,6 +88,24 @@ pub enum Refusal {
     LastNumber,
     ShortRanges,
     Kinds,
+}
+
+pub fn refusal_number(why: Refusal) -> u32
+    ensures { λ r. ⌜ r ≡ refusalNumber why ⌝ }
+{
+    match why {
+        Refusal::IllFormed => 1,
+        Refusal::ShortFates => 2,
+        Refusal::NoTrack => 3,
+        Refusal::FrameLimits => 4,
+        Refusal::Seconds => 5,
+        Refusal::Order => 6,
+        Refusal::ResultLimits => 7,
+        Refusal::Full => 8,
+        Refusal::LastNumber => 9,
+        Refusal::ShortRanges => 10,
+        Refusal::Kinds => 11,
+    }
 }
 
 // What creation, abort and the setters answer, and the state that they hand back: after a refusal the one that they were handed.

@@ -52,19 +52,7 @@ pub struct Step {
 fn number_of(why: Refusal) -> usize
     ensures { λ r. ⌜ r ≡ refusalNumber why ⌝ }
 {
-    match why {
-        Refusal::IllFormed => 1,
-        Refusal::ShortFates => 2,
-        Refusal::NoTrack => 3,
-        Refusal::FrameLimits => 4,
-        Refusal::Seconds => 5,
-        Refusal::Order => 6,
-        Refusal::ResultLimits => 7,
-        Refusal::Full => 8,
-        Refusal::LastNumber => 9,
-        Refusal::ShortRanges => 10,
-        Refusal::Kinds => 11,
-    }
+    wide(buffer_state::refusal_number(why))
 }
 
 fn track_of(n: u32) -> u8

@@ -168,24 +168,6 @@ fn end_out(end: WindowEnd) -> f64
     }
 }
 
-fn number_of(why: Refusal) -> u32
-    ensures { λ r. ⌜ r ≡ refusalNumber why ⌝ }
-{
-    match why {
-        Refusal::IllFormed => 1,
-        Refusal::ShortFates => 2,
-        Refusal::NoTrack => 3,
-        Refusal::FrameLimits => 4,
-        Refusal::Seconds => 5,
-        Refusal::Order => 6,
-        Refusal::ResultLimits => 7,
-        Refusal::Full => 8,
-        Refusal::LastNumber => 9,
-        Refusal::ShortRanges => 10,
-        Refusal::Kinds => 11,
-    }
-}
-
 // ---- the parts of a state, in and out
 
 fn frame_in(f: FlatFrame) -> Frame
@@ -478,7 +460,7 @@ fn flat_of(s: State, refusal: u32, count: usize) -> Flat
 fn refused(c: Flat, why: Refusal) -> Flat
     ensures { λ r. ⌜ r ≡ refusedFlat c (refusalNumber why) ⌝ }
 {
-    let refusal = number_of(why);
+    let refusal = buffer_state::refusal_number(why);
     Flat {
         refusal,
         count: 0,
@@ -502,7 +484,7 @@ fn created_out(answer: Answer, s: State) -> Flat
 {
     match answer {
         Answer::Done => flat_of(s, 0, 0),
-        Answer::Refused(why) => flat_of(s, number_of(why), 0),
+        Answer::Refused(why) => flat_of(s, buffer_state::refusal_number(why), 0),
     }
 }
 
@@ -524,7 +506,7 @@ fn report_out(answer: Count) -> Report
             count: n,
         },
         Count::Refused(why) => Report {
-            refusal: number_of(why),
+            refusal: buffer_state::refusal_number(why),
             count: 0,
         },
     }
@@ -549,7 +531,7 @@ fn reading_out(answer: Read) -> Reading
             end: 0.0,
         },
         Read::Refused(why) => Reading {
-            refusal: number_of(why),
+            refusal: buffer_state::refusal_number(why),
             bounded: 0,
             offset: 0.0,
             start: 0.0,

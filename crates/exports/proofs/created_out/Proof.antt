@@ -18,8 +18,8 @@ flat-of-requires c κs = search needs
 enum-known-answer : tie.Need-enum-known-answer
 enum-known-answer c = search needs
 
-number-of-requires : tie.Need-number-of-requires
-number-of-requires c κs = search needs
+refusal-number-requires : tie.Need-refusal-number-requires
+refusal-number-requires c κs = search needs
 
 flat-of-requires-2 : tie.Need-flat-of-requires-2
 flat-of-requires-2 c κs = search needs
@@ -35,7 +35,7 @@ returns-2 c =
     let a = c .before .before .before .before .before .args in
     let g = c .before .before .before .answer .given in
     let e : Refused (g .0 .0) ≡ a .answer = sym (g .1) in
-    c .flat-of2 .ensures ∙ ap (λ (n : ℕ). flatOf n 0 (a .s)) (c .before .number-of .ensures) ∙ ap (λ (t : Answer). createdOut t (a .s)) e
+    c .flat-of2 .ensures ∙ ap (λ (n : ℕ). flatOf n 0 (a .s)) (c .before .refusal-number .ensures) ∙ ap (λ (t : Answer). createdOut t (a .s)) e
 
 pub created-out-spec : {M : Type 1} → statement M
 created-out-spec =
@@ -44,7 +44,7 @@ created-out-spec =
     enum-told
     flat-of-requires
     enum-known-answer
-    number-of-requires
+    refusal-number-requires
     flat-of-requires-2
     returns
     returns-2)

@@ -16,8 +16,8 @@ enum-known-answer-2 c = search needs
 enum-known-answer-3 : tie.Need-enum-known-answer-3
 enum-known-answer-3 c = search needs
 
-number-of-requires : tie.Need-number-of-requires
-number-of-requires c κs = search needs
+refusal-number-requires : tie.Need-refusal-number-requires
+refusal-number-requires c κs = search needs
 
 returns : tie.Need-returns
 returns c =
@@ -37,7 +37,7 @@ unfolding ofBits
 returns-3 c =
     let g = c .before .before .answer3 .given in
     let e : Refused (g .0 .0) ≡ c .before .before .before .before .args .answer = sym (g .1) in
-    rw (c .number-of .ensures) (ap readingOut e)
+    rw (c .refusal-number .ensures) (ap readingOut e)
 
 pub reading-out-spec : {M : Type 1} → statement M
 reading-out-spec =
@@ -46,7 +46,7 @@ reading-out-spec =
     enum-known-answer
     enum-known-answer-2
     enum-known-answer-3
-    number-of-requires
+    refusal-number-requires
     returns
     returns-2
     returns-3)

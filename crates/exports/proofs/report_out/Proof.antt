@@ -12,8 +12,8 @@ enum-known-answer c = search needs
 enum-known-answer-2 : tie.Need-enum-known-answer-2
 enum-known-answer-2 c = search needs
 
-number-of-requires : tie.Need-number-of-requires
-number-of-requires c κs = search needs
+refusal-number-requires : tie.Need-refusal-number-requires
+refusal-number-requires c κs = search needs
 
 returns : tie.Need-returns
 returns c =
@@ -24,8 +24,8 @@ returns-2 : tie.Need-returns-2
 returns-2 c =
     let g = c .before .before .answer2 .given in
     let e : Refused (g .0 .0) ≡ c .before .before .before .before .args .answer = sym (g .1) in
-    rw (c .number-of .ensures) (ap reportOut e)
+    rw (c .refusal-number .ensures) (ap reportOut e)
 
 pub report-out-spec : {M : Type 1} → statement M
 report-out-spec =
-    tie.close (tie.spec enum-known-answer enum-known-answer-2 number-of-requires returns returns-2)
+    tie.close (tie.spec enum-known-answer enum-known-answer-2 refusal-number-requires returns returns-2)
