@@ -1,7 +1,5 @@
 // The worked cases of document 01, run by the compiled calls; what is written is compared with the file stdout.
 // A line for each call: its answer, with the fate lines or the ranges that it wrote.
-ghost use mathlib.Core.Path.{_≡_};
-ghost use Rattle.buffer_state.specs.Refusals.{refusalNumber};
 use buffer_state::Answer;
 use buffer_state::Changed;
 use buffer_state::Count;
@@ -14,104 +12,30 @@ use buffer_state::State;
 
 // ---- what is written
 
-fn text(b: &[u8]) {
-    io::write_all(1, b);
-}
-
-fn number(n: u64) {
-    io::print_decimal(1, n);
-}
-
-fn wide(n: u32) -> u64 {
-    n as u64
-}
-
-fn refusal_number(why: Refusal) -> u64
-    ensures { λ r. ⌜ r ≡ refusalNumber why ⌝ }
-{
-    match why {
-        Refusal::IllFormed => 1,
-        Refusal::ShortFates => 2,
-        Refusal::NoTrack => 3,
-        Refusal::FrameLimits => 4,
-        Refusal::Seconds => 5,
-        Refusal::Order => 6,
-        Refusal::ResultLimits => 7,
-        Refusal::Full => 8,
-        Refusal::LastNumber => 9,
-        Refusal::ShortRanges => 10,
-        Refusal::Kinds => 11,
-    }
-}
-
 fn refused(why: Refusal) {
-    text(b"refused ");
-    number(refusal_number(why));
-    text(b"\n");
-}
-
-fn line(fates: &[[u32; 2]], i: usize) {
-    if i < fates.len() {
-        let l = fates[i];
-        text(b" (");
-        number(wide(l[0]));
-        text(b",");
-        number(wide(l[1]));
-        text(b")");
-    }
+    text::put(b"refused ");
+    text::number(buffer_state::refusal_number(why) as u64);
+    text::put(b"\n");
 }
 
 fn lines(fates: &[[u32; 2]], n: usize) {
-    text(b"fates");
-    for i in 0..n {
-        line(fates, i);
-    }
-    text(b"\n");
-}
-
-// z without its sign. One less is cast, as the least i64 has no negative.
-fn magnitude(z: i64) -> u64 {
-    if 0 <= z {
-        return z as u64;
-    }
-    let less = -1 - z;
-    less as u64 + 1
-}
-
-fn time(z: i64) {
-    if z < 0 {
-        text(b"-");
-    }
-    number(magnitude(z));
-}
-
-fn range(list: &[[i64; 2]], i: usize) {
-    if i < list.len() {
-        let r = list[i];
-        text(b" [");
-        time(r[0]);
-        text(b",");
-        time(r[1]);
-        text(b")");
-    }
+    text::fates(fates, n);
+    text::put(b"\n");
 }
 
 fn ranges_of(list: &[[i64; 2]], n: usize) {
-    text(b"ranges");
-    for i in 0..n {
-        range(list, i);
-    }
-    text(b"\n");
+    text::ranges(list, n);
+    text::put(b"\n");
 }
 
 // A stored frame: its number, when it is shown, when it is decoded.
 fn frame(f: Frame) {
-    text(b" ");
-    number(wide(f.number));
-    text(b":");
-    time(f.pts);
-    text(b"/");
-    time(f.dts);
+    text::put(b" ");
+    text::small(f.number);
+    text::put(b":");
+    text::time(f.pts);
+    text::put(b"/");
+    text::time(f.dts);
 }
 
 fn place(s: State, i: usize) {
@@ -121,35 +45,35 @@ fn place(s: State, i: usize) {
 }
 
 fn stored(s: State) {
-    text(b"stored");
+    text::put(b"stored");
     for i in 0..s.nframes {
         place(s, i);
     }
-    text(b"\n");
+    text::put(b"\n");
 }
 
 fn group_end(s: State) {
     let g = s.group;
-    text(b"group end ");
-    time(g.end);
-    text(b"\n");
+    text::put(b"group end ");
+    text::time(g.end);
+    text::put(b"\n");
 }
 
 fn offset(s: State) {
     let settings = s.settings;
     let o = settings.offset;
-    text(b"offset ");
-    time(o.micros);
-    text(b"\n");
+    text::put(b"offset ");
+    text::time(o.micros);
+    text::put(b"\n");
 }
 
 // Whether the first track's last decode timestamp, last duration and highest end are set.
 fn known(s: State) {
     let t = s.tracks[0];
     if t.known {
-        text(b"the three set\n");
+        text::put(b"the three set\n");
     } else {
-        text(b"the three unset\n");
+        text::put(b"the three unset\n");
     }
 }
 
@@ -229,7 +153,7 @@ fn report(s: State) {
 fn changed(c: Changed) -> State {
     let a = c.answer;
     match a {
-        Answer::Done => text(b"done\n"),
+        Answer::Done => text::put(b"done\n"),
         Answer::Refused(why) => refused(why),
     }
     c.state
@@ -252,43 +176,43 @@ fn four() -> State {
 }
 
 fn case_a() {
-    text(b"A\n");
+    text::put(b"A\n");
     report(two());
 }
 
 fn case_b() {
-    text(b"B\n");
+    text::put(b"B\n");
     report(p(two(), 400, 300));
 }
 
 fn case_c() {
-    text(b"C\n");
+    text::put(b"C\n");
     let s = p(two(), 400, 301);
     group_end(s);
     report(s);
 }
 
 fn case_d() {
-    text(b"D\n");
+    text::put(b"D\n");
     report(p(r(fresh(), 0, 0), 101, 101));
 }
 
 fn case_e() {
-    text(b"E\n");
+    text::put(b"E\n");
     let s = r(abort(four()), 100, 100);
     stored(s);
     report(s);
 }
 
 fn case_f() {
-    text(b"F\n");
+    text::put(b"F\n");
     let s = p(r(abort(r(fresh(), 0, 0)), 200, 0), 0, 100);
     stored(s);
     report(s);
 }
 
 fn case_g() {
-    text(b"G\n");
+    text::put(b"G\n");
     let m = changed(settings::set_mode(fresh(), Mode::Sequence));
     let s = r(m, 5000, 4900);
     stored(s);
@@ -299,12 +223,12 @@ fn case_g() {
 }
 
 fn case_h() {
-    text(b"H\n");
+    text::put(b"H\n");
     report(remove(four(), 0.00015, 0.00025));
 }
 
 fn case_i() {
-    text(b"I\n");
+    text::put(b"I\n");
     let s = remove(four(), 0.00015, 0.00035);
     group_end(s);
     known(s);
@@ -317,7 +241,7 @@ fn window() -> State {
 }
 
 fn case_j() {
-    text(b"J\n");
+    text::put(b"J\n");
     let s = window();
     report(r(s, 49, 49));
     report(r(s, 50, 50));
@@ -337,7 +261,7 @@ fn full() -> State {
 }
 
 fn case_l() {
-    text(b"L\n");
+    text::put(b"L\n");
     changed(settings::set_offset(fresh(), 1000000.0000000001));
     append(fresh(), lasting(0));
     append(fresh(), lasting(10000000));

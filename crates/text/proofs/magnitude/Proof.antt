@@ -12,8 +12,8 @@ use mir.ValLaws.{toZ-ofZ}
 use borrow.Author.Needs.{needs}
 use borrow.Author.Tests.{le-leb, le-ltb}
 use Rattle.laws.proofs.BoolLaws.{clash}
-use Rattle.soundings.proofs.magnitude.Statement.{statement}
-use Rattle.soundings.proofs.magnitude.Tie as tie
+use Rattle.text.proofs.magnitude.Statement.{statement}
+use Rattle.text.proofs.magnitude.Tie as tie
 
 record Counts (z : ℤ) : Type 0 where
   signed : SFits w64 z

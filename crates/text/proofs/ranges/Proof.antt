@@ -1,20 +1,20 @@
 -- A range for each place up to the count.
 use Prim.Native.Nat.{_-_, _≤_}
 use borrow.Author.Needs.{needs}
-use Rattle.soundings.proofs.ranges_of.Statement.{statement}
-use Rattle.soundings.proofs.ranges_of.Tie as tie
+use Rattle.text.proofs.ranges.Statement.{statement}
+use Rattle.text.proofs.ranges.Tie as tie
 
 abbrev Inv-loop : tie.InvT-loop
-Inv-loop list n i₀ t5 i = i ≤ n
+Inv-loop list n i₀ i = i ≤ n
 
 abbrev μ-loop : tie.MeasureT-loop
-μ-loop list n i₀ t5 i = n - i
+μ-loop list n i₀ i = n - i
 
-slice-aggregate-text : tie.Need-slice-aggregate-text Inv-loop μ-loop
-slice-aggregate-text c = search needs
+slice-aggregate-put : tie.Need-slice-aggregate-put Inv-loop μ-loop
+slice-aggregate-put c = search needs
 
-text-requires : tie.Need-text-requires Inv-loop μ-loop
-text-requires c κs = search needs
+put-requires : tie.Need-put-requires Inv-loop μ-loop
+put-requires c κs = search needs
 
 loop-holds : tie.Need-loop-holds Inv-loop μ-loop
 loop-holds c = search needs
@@ -31,28 +31,20 @@ loop-less c = search needs
 loop-again : tie.Need-loop-again Inv-loop μ-loop
 loop-again c = search needs
 
-slice-aggregate-text-2 : tie.Need-slice-aggregate-text-2 Inv-loop μ-loop
-slice-aggregate-text-2 c = search needs
-
-text-requires-2 : tie.Need-text-requires-2 Inv-loop μ-loop
-text-requires-2 c κs = search needs
-
 returns : tie.Need-returns Inv-loop μ-loop
 returns c = search needs
 
-pub ranges-of-spec : {M : Type 1} → statement M
-ranges-of-spec =
+pub ranges-spec : {M : Type 1} → statement M
+ranges-spec =
     tie.close
     (tie.spec
     Inv-loop
     μ-loop
-    slice-aggregate-text
-    text-requires
+    slice-aggregate-put
+    put-requires
     loop-holds
     range-requires
     add-i
     loop-less
     loop-again
-    slice-aggregate-text-2
-    text-requires-2
     returns)
