@@ -49,7 +49,7 @@ pub struct Step {
     pub state: State,
 }
 
-fn number_of(why: Refusal) -> usize
+pub fn number_of(why: Refusal) -> usize
     ensures { λ r. ⌜ r ≡ refusalNumber why ⌝ }
 {
     wide(buffer_state::refusal_number(why))

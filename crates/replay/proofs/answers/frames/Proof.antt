@@ -1,0 +1,50 @@
+-- A frame for each place up to the count.
+use Prim.Native.Nat.{_-_, _≤_}
+use borrow.Author.Needs.{needs}
+use Rattle.replay.proofs.answers.frames.Statement.{statement}
+use Rattle.replay.proofs.answers.frames.Tie as tie
+
+abbrev Inv-loop : tie.InvT-loop
+Inv-loop n frames i₀ i = i ≤ n
+
+abbrev μ-loop : tie.MeasureT-loop
+μ-loop n frames i₀ i = n - i
+
+loop-holds : tie.Need-loop-holds Inv-loop μ-loop
+loop-holds c = search needs
+
+mul-frame : tie.Need-mul-frame Inv-loop μ-loop
+mul-frame c = search needs
+
+array-copy-out-frame : tie.Need-array-copy-out-frame Inv-loop μ-loop
+array-copy-out-frame c = search needs
+
+frame-requires : tie.Need-frame-requires Inv-loop μ-loop
+frame-requires c κs = search needs
+
+add-i : tie.Need-add-i Inv-loop μ-loop
+add-i c = search needs
+
+loop-less : tie.Need-loop-less Inv-loop μ-loop
+loop-less c = search needs
+
+loop-again : tie.Need-loop-again Inv-loop μ-loop
+loop-again c = search needs
+
+returns : tie.Need-returns Inv-loop μ-loop
+returns c = search needs
+
+pub frames-spec : {M : Type 1} → statement M
+frames-spec =
+    tie.close
+    (tie.spec
+    Inv-loop
+    μ-loop
+    loop-holds
+    mul-frame
+    array-copy-out-frame
+    frame-requires
+    add-i
+    loop-less
+    loop-again
+    returns)

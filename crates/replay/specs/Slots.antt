@@ -1,0 +1,38 @@
+-- What a slot holds beside its state, and the state that a call is handed.
+use mathlib.Core.Bool.{Bool, cond, _&&_, _||_}
+use Prim.Native.Nat.{ℕ}
+use lib.Dec.{eqb}
+use lib.ListN.{getD}
+use Rattle.buffer_state.specs.declared.State.{State}
+use Rattle.seconds.specs.Seconds.{zeroSeconds, sameDouble}
+use Rattle.replay.specs.declared.slots.Slot.{Slot}
+
+-- none of a track's three values set, or all, a bit each
+abbrev pub togetherOf : ℕ → Bool
+togetherOf set = eqb set 0 || eqb set 7
+
+-- the state alone says all that the slot holds: on each track the three are set together, and the double kept beside an unbounded
+-- window end is plus zero
+abbrev pub holdsAll : Slot → Bool
+holdsAll slot =
+    togetherOf (getD (slot .sets) 0 0)
+    && (togetherOf (getD (slot .sets) 1 0)
+    && (togetherOf (getD (slot .sets) 2 0)
+    && (togetherOf (getD (slot .sets) 3 0) && sameDouble (slot .spare) zeroSeconds)))
+
+-- a state of nine tracks, which is not well-formed
+abbrev pub overfull : State → State
+overfull s = record {
+  frames = s .frames;
+  nframes = s .nframes;
+  tracks = s .tracks;
+  ntracks = 9;
+  mode = s .mode;
+  group = s .group;
+  last = s .last;
+  settings = s .settings;
+}
+
+-- the state of the slot where that says all, else one that is not well-formed either
+abbrev pub handedOf : Slot → State
+handedOf slot = cond (holdsAll slot) (slot .state) (overfull (slot .state))

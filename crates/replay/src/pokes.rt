@@ -1,0 +1,614 @@
+// Pokes: one field of the state in a slot, written as it lies.
+use crate::slots::ALL;
+use crate::slots::Slot;
+use crate::words::Words;
+use crate::words::begins;
+use crate::words::part;
+use crate::words::word;
+use buffer_state::Frame;
+use buffer_state::Group;
+use buffer_state::Mode;
+use buffer_state::Setting;
+use buffer_state::Settings;
+use buffer_state::State;
+use buffer_state::Track;
+use buffer_state::WindowEnd;
+use text::read::Double;
+use text::read::Small;
+use text::read::Whole;
+
+const DECODE: u8 = 1; // the bits of a track's three values
+
+const DURATION: u8 = 2;
+
+const END: u8 = 4;
+
+// Done; a number that the field cannot hold; or a poke that cannot be read. What stands beside the last two is not used.
+pub enum Verdict {
+    Done,
+    Declined,
+    Unknown,
+}
+
+pub struct Poked {
+    pub verdict: Verdict,
+    pub slot: Slot,
+}
+
+pub struct PokedFrame {
+    pub verdict: Verdict,
+    pub frame: Frame,
+}
+
+pub struct PokedTrack {
+    pub verdict: Verdict,
+    pub track: Track,
+    pub set: u8,
+}
+
+pub struct PokedSetting {
+    pub verdict: Verdict,
+    pub setting: Setting,
+}
+
+pub struct PokedSettings {
+    pub verdict: Verdict,
+    pub settings: Settings,
+    pub spare: f64,
+}
+
+pub struct PokedGroup {
+    pub verdict: Verdict,
+    pub group: Group,
+}
+
+// ---- what a word says of a field
+
+pub struct TimeWord {
+    pub verdict: Verdict,
+    pub set: bool,
+    pub micros: i64,
+}
+
+pub struct NumberWord {
+    pub verdict: Verdict,
+    pub number: u32,
+}
+
+pub struct ByteWord {
+    pub verdict: Verdict,
+    pub byte: u8,
+}
+
+pub struct FlagWord {
+    pub verdict: Verdict,
+    pub on: bool,
+}
+
+pub struct DoubleWord {
+    pub verdict: Verdict,
+    pub seconds: f64,
+}
+
+pub struct ModeWord {
+    pub verdict: Verdict,
+    pub mode: Mode,
+}
+
+fn time(w: &[u8]) -> TimeWord {
+    match text::read::as_whole(w) {
+        Whole::Is(micros) => TimeWord {
+            verdict: Verdict::Done,
+            set: true,
+            micros,
+        },
+        Whole::Not => TimeWord {
+            verdict: Verdict::Unknown,
+            set: true,
+            micros: 0,
+        },
+        _ => TimeWord {
+            verdict: Verdict::Declined,
+            set: true,
+            micros: 0,
+        },
+    }
+}
+
+// MAYBE of the protocol: a number, `unset`, or `unset:N`.
+fn maybe(w: &[u8]) -> TimeWord {
+    if check::same(w, b"unset") {
+        return TimeWord {
+            verdict: Verdict::Done,
+            set: false,
+            micros: 0,
+        };
+    }
+    if begins(w, b"unset:") {
+        let mut t = time(part(w, 6, w.len()));
+        t.set = false;
+        return t;
+    }
+    time(w)
+}
+
+fn number(n: Small) -> NumberWord {
+    match n {
+        Small::Is(number) => NumberWord {
+            verdict: Verdict::Done,
+            number,
+        },
+        Small::Not => NumberWord {
+            verdict: Verdict::Unknown,
+            number: 0,
+        },
+        _ => NumberWord {
+            verdict: Verdict::Declined,
+            number: 0,
+        },
+    }
+}
+
+fn byte(w: &[u8]) -> ByteWord {
+    let n = number(text::read::as_small(w));
+    let verdict = n.verdict;
+    let k = n.number;
+    if 255 < k {
+        return ByteWord {
+            verdict: Verdict::Declined,
+            byte: 0,
+        };
+    }
+    ByteWord {
+        verdict,
+        byte: k as u8,
+    }
+}
+
+fn flag(w: &[u8]) -> FlagWord {
+    let n = number(text::read::as_small(w));
+    let verdict = n.verdict;
+    let k = n.number;
+    if 1 < k {
+        return FlagWord {
+            verdict: Verdict::Declined,
+            on: false,
+        };
+    }
+    FlagWord {
+        verdict,
+        on: k == 1,
+    }
+}
+
+fn double(w: &[u8]) -> DoubleWord {
+    match text::read::as_double(w) {
+        Double::Is(seconds) => DoubleWord {
+            verdict: Verdict::Done,
+            seconds,
+        },
+        Double::Not => DoubleWord {
+            verdict: Verdict::Unknown,
+            seconds: 0.0,
+        },
+    }
+}
+
+fn mode(w: &[u8]) -> ModeWord {
+    if check::same(w, b"segments") {
+        return ModeWord {
+            verdict: Verdict::Done,
+            mode: Mode::Segments,
+        };
+    }
+    if check::same(w, b"sequence") {
+        return ModeWord {
+            verdict: Verdict::Done,
+            mode: Mode::Sequence,
+        };
+    }
+    ModeWord {
+        verdict: Verdict::Unknown,
+        mode: Mode::Segments,
+    }
+}
+
+// ---- one field of a frame
+
+fn frame_with(verdict: Verdict, frame: Frame) -> PokedFrame {
+    PokedFrame { verdict, frame }
+}
+
+fn poked_frame(f: Frame, name: &[u8], value: &[u8]) -> PokedFrame {
+    let mut g = f;
+    if check::same(name, b"track") {
+        let b = byte(value);
+        g.track = b.byte;
+        let v = b.verdict;
+        return frame_with(v, g);
+    }
+    if check::same(name, b"p") {
+        let t = time(value);
+        g.pts = t.micros;
+        let v = t.verdict;
+        return frame_with(v, g);
+    }
+    if check::same(name, b"d") {
+        let t = time(value);
+        g.dts = t.micros;
+        let v = t.verdict;
+        return frame_with(v, g);
+    }
+    if check::same(name, b"duration") {
+        let n = number(text::read::as_small(value));
+        g.duration = n.number;
+        let v = n.verdict;
+        return frame_with(v, g);
+    }
+    if check::same(name, b"flag") {
+        let b = flag(value);
+        g.flagged = b.on;
+        let v = b.verdict;
+        return frame_with(v, g);
+    }
+    if check::same(name, b"number") {
+        let n = number(text::read::as_small(value));
+        g.number = n.number;
+        let v = n.verdict;
+        return frame_with(v, g);
+    }
+    frame_with(Verdict::Unknown, g)
+}
+
+// ---- one field of a track
+
+fn track_with(verdict: Verdict, track: Track, set: u8) -> PokedTrack {
+    PokedTrack {
+        verdict,
+        track,
+        set,
+    }
+}
+
+// One of the three values, its bit put to whether it is set. A State knows only all three or none.
+fn three_with(verdict: Verdict, track: Track, set: u8, one: u8, on: bool) -> PokedTrack {
+    let mut t = track;
+    let mut bits = set & (ALL ^ one);
+    if on {
+        bits = set | one;
+    }
+    t.known = bits == ALL;
+    track_with(verdict, t, bits)
+}
+
+fn poked_three(t: Track, set: u8, name: &[u8], value: &[u8]) -> PokedTrack {
+    let mut u = t;
+    let m = maybe(value);
+    let v = m.verdict;
+    if check::same(name, b"last-decode") {
+        u.dts = m.micros;
+        return three_with(v, u, set, DECODE, m.set);
+    }
+    if check::same(name, b"highest-end") {
+        u.end = m.micros;
+        return three_with(v, u, set, END, m.set);
+    }
+    if !check::same(name, b"last-duration") {
+        return track_with(Verdict::Unknown, t, set);
+    }
+    let n = number(text::read::small_of(m.micros));
+    u.duration = n.number;
+    let fits = n.verdict;
+    three_with(first_of(v, fits), u, set, DURATION, m.set)
+}
+
+// What is wrong first, if anything is.
+fn first_of(a: Verdict, b: Verdict) -> Verdict {
+    match a {
+        Verdict::Done => b,
+        Verdict::Declined => Verdict::Declined,
+        Verdict::Unknown => Verdict::Unknown,
+    }
+}
+
+fn poked_track(t: Track, set: u8, name: &[u8], value: &[u8]) -> PokedTrack {
+    let mut u = t;
+    if check::same(name, b"kind") {
+        let b = byte(value);
+        u.kind = b.byte;
+        let v = b.verdict;
+        return track_with(v, u, set);
+    }
+    if check::same(name, b"need") {
+        let b = flag(value);
+        u.need = b.on;
+        let v = b.verdict;
+        return track_with(v, u, set);
+    }
+    poked_three(t, set, name, value)
+}
+
+// ---- one field of the settings
+
+fn settings_with(verdict: Verdict, settings: Settings, spare: f64) -> PokedSettings {
+    PokedSettings {
+        verdict,
+        settings,
+        spare,
+    }
+}
+
+// The double kept beside the window end, wherever it is kept.
+fn end_double(end: WindowEnd, spare: f64) -> f64 {
+    match end {
+        WindowEnd::At(x) => x,
+        WindowEnd::Unbounded => spare,
+    }
+}
+
+// The window end made bounded or unbounded, with the double x kept beside it.
+fn end_with(s: Settings, verdict: Verdict, bounded: bool, x: f64) -> PokedSettings {
+    let offset = s.offset;
+    let start = s.start;
+    let limit = s.limit;
+    if bounded {
+        let t = Settings {
+            offset,
+            start,
+            end: WindowEnd::At(x),
+            limit,
+        };
+        return settings_with(verdict, t, 0.0);
+    }
+    let t = Settings {
+        offset,
+        start,
+        end: WindowEnd::Unbounded,
+        limit,
+    };
+    settings_with(verdict, t, x)
+}
+
+fn is_bounded(end: WindowEnd) -> bool {
+    match end {
+        WindowEnd::At(_) => true,
+        WindowEnd::Unbounded => false,
+    }
+}
+
+fn poked_end(s: Settings, spare: f64, name: &[u8], value: &[u8]) -> PokedSettings {
+    let end = s.end;
+    if check::same(name, b"window-end-us") {
+        let m = maybe(value);
+        let v = m.verdict;
+        let mut t = s;
+        t.limit = m.micros;
+        return end_with(t, v, m.set, end_double(end, spare));
+    }
+    if check::same(name, b"window-end-double") {
+        let k = double(value);
+        let v = k.verdict;
+        return end_with(s, v, is_bounded(end), k.seconds);
+    }
+    settings_with(Verdict::Unknown, s, spare)
+}
+
+// `us` or `double`, the two halves of a setting.
+fn poked_setting(o: Setting, half: &[u8], value: &[u8]) -> PokedSetting {
+    let mut setting = o;
+    if check::same(half, b"us") {
+        let m = time(value);
+        setting.micros = m.micros;
+        let verdict = m.verdict;
+        return PokedSetting { verdict, setting };
+    }
+    if check::same(half, b"double") {
+        let k = double(value);
+        setting.seconds = k.seconds;
+        let verdict = k.verdict;
+        return PokedSetting { verdict, setting };
+    }
+    PokedSetting {
+        verdict: Verdict::Unknown,
+        setting,
+    }
+}
+
+fn poked_settings(s: Settings, spare: f64, name: &[u8], value: &[u8]) -> PokedSettings {
+    let mut t = s;
+    if begins(name, b"offset-") {
+        let p = poked_setting(s.offset, part(name, 7, name.len()), value);
+        let o = p.setting;
+        let v = p.verdict;
+        t.offset = o;
+        return settings_with(v, t, spare);
+    }
+    if begins(name, b"window-start-") {
+        let p = poked_setting(s.start, part(name, 13, name.len()), value);
+        let o = p.setting;
+        let v = p.verdict;
+        t.start = o;
+        return settings_with(v, t, spare);
+    }
+    poked_end(s, spare, name, value)
+}
+
+fn poked_group(g: Group, name: &[u8], value: &[u8]) -> PokedGroup {
+    if check::same(name, b"group-start") {
+        let m = maybe(value);
+        let verdict = m.verdict;
+        let group = Group {
+            begun: m.set,
+            start: m.micros,
+            end: g.end,
+        };
+        return PokedGroup { verdict, group };
+    }
+    let m = time(value);
+    let verdict = m.verdict;
+    let group = Group {
+        begun: g.begun,
+        start: g.start,
+        end: m.micros,
+    };
+    PokedGroup { verdict, group }
+}
+
+// ---- the state in a slot
+
+fn poked_with(verdict: Verdict, slot: Slot, state: State) -> Poked {
+    let sets = slot.sets;
+    let s = Slot {
+        held: slot.held,
+        state,
+        sets,
+        spare: slot.spare,
+    };
+    Poked { verdict, slot: s }
+}
+
+fn unknown(slot: Slot) -> Poked {
+    Poked {
+        verdict: Verdict::Unknown,
+        slot,
+    }
+}
+
+// `frame I FIELD N`
+fn poke_frame(slot: Slot, line: &[u8], w: Words) -> Poked {
+    let Small::Is(i) = text::read::as_small(word(line, w, 2)) else {
+        return unknown(slot);
+    };
+    if w.count != 5 {
+        return unknown(slot);
+    }
+    if i < 1 {
+        return unknown(slot);
+    }
+    if 1024 < i {
+        return unknown(slot);
+    }
+    let at = (i - 1) as usize;
+    let mut s = slot.state;
+    let p = poked_frame(s.frames[at], word(line, w, 3), word(line, w, 4));
+    let f = p.frame;
+    let v = p.verdict;
+    s.frames[at] = f;
+    poked_with(v, slot, s)
+}
+
+// `track I FIELD ..`
+fn poke_track(slot: Slot, line: &[u8], w: Words) -> Poked {
+    let Small::Is(i) = text::read::as_small(word(line, w, 2)) else {
+        return unknown(slot);
+    };
+    if w.count != 5 {
+        return unknown(slot);
+    }
+    if i < 1 {
+        return unknown(slot);
+    }
+    if 4 < i {
+        return unknown(slot);
+    }
+    let at = (i - 1) as usize;
+    let mut s = slot.state;
+    let p = poked_track(
+        s.tracks[at],
+        slot.sets[at],
+        word(line, w, 3),
+        word(line, w, 4),
+    );
+    let t = p.track;
+    let v = p.verdict;
+    s.tracks[at] = t;
+    let mut q = slot;
+    q.sets[at] = p.set;
+    poked_with(v, q, s)
+}
+
+fn poke_group(slot: Slot, name: &[u8], value: &[u8]) -> Poked {
+    let mut s = slot.state;
+    let p = poked_group(s.group, name, value);
+    let g = p.group;
+    let v = p.verdict;
+    s.group = g;
+    poked_with(v, slot, s)
+}
+
+fn poke_settings(slot: Slot, name: &[u8], value: &[u8]) -> Poked {
+    let mut s = slot.state;
+    let p = poked_settings(s.settings, slot.spare, name, value);
+    let t = p.settings;
+    let v = p.verdict;
+    s.settings = t;
+    let mut q = slot;
+    q.spare = p.spare;
+    poked_with(v, q, s)
+}
+
+fn poke_mode(slot: Slot, value: &[u8]) -> Poked {
+    let s = slot.state;
+    let m = mode(value);
+    let mode = m.mode;
+    let v = m.verdict;
+    poked_with(v, slot, State { mode, ..s })
+}
+
+// A count, of frames or of tracks, or the last frame number.
+fn poke_number(slot: Slot, name: &[u8], value: &[u8]) -> Poked {
+    let n = number(text::read::as_small(value));
+    let v = n.verdict;
+    let mut s = slot.state;
+    if check::same(name, b"last-number") {
+        s.last = n.number;
+        return poked_with(v, slot, s);
+    }
+    if check::same(name, b"tracks") {
+        s.ntracks = n.number as usize;
+        return poked_with(v, slot, s);
+    }
+    s.nframes = n.number as usize;
+    poked_with(v, slot, s)
+}
+
+fn is_number(name: &[u8]) -> bool {
+    if check::same(name, b"last-number") {
+        return true;
+    }
+    if check::same(name, b"tracks") {
+        return true;
+    }
+    check::same(name, b"frames")
+}
+
+fn is_group(name: &[u8]) -> bool {
+    if check::same(name, b"group-start") {
+        return true;
+    }
+    check::same(name, b"group-end")
+}
+
+pub fn poke(slot: Slot, line: &[u8], w: Words) -> Poked {
+    let name = word(line, w, 1);
+    if check::same(name, b"frame") {
+        return poke_frame(slot, line, w);
+    }
+    if check::same(name, b"track") {
+        return poke_track(slot, line, w);
+    }
+    if w.count != 3 {
+        return unknown(slot);
+    }
+    let value = word(line, w, 2);
+    if is_number(name) {
+        return poke_number(slot, name, value);
+    }
+    if is_group(name) {
+        return poke_group(slot, name, value);
+    }
+    if check::same(name, b"mode") {
+        return poke_mode(slot, value);
+    }
+    poke_settings(slot, name, value)
+}
