@@ -1,7 +1,7 @@
 //! Every script of a folder gets exactly the answers that stand beside it.
 //!
 //! The folder is the one that the environment variable `VECTORS` names, else `vectors/` of the
-//! workspace, which may be empty.
+//! workspace.
 
 use std::path::{Path, PathBuf};
 use std::{env, fs};
@@ -10,9 +10,8 @@ use script::{Proved, Second, Session, Subject};
 
 /// The scripts of the folder, in order of name.
 fn scripts() -> Vec<PathBuf> {
-    let given = env::var_os("VECTORS").map(PathBuf::from);
     let own = Path::new(env!("CARGO_MANIFEST_DIR")).join("../vectors");
-    let folder = given.as_ref().unwrap_or(&own);
+    let folder = env::var_os("VECTORS").map_or(own, PathBuf::from);
     let entries = fs::read_dir(folder).expect("the folder of the vectors");
     let mut scripts: Vec<PathBuf> = entries
         .map(|entry| entry.expect("an entry of the folder").path())
@@ -22,7 +21,7 @@ fn scripts() -> Vec<PathBuf> {
         })
         .collect();
     scripts.sort();
-    assert!(given.is_none() || !scripts.is_empty(), "no scripts there");
+    assert!(!scripts.is_empty(), "no scripts there");
     scripts
 }
 
