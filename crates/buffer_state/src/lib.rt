@@ -90,6 +90,7 @@ pub enum Refusal {
     Kinds,
 }
 
+// The number that the table gives it.
 pub fn refusal_number(why: Refusal) -> u32
     ensures { λ r. ⌜ r ≡ refusalNumber why ⌝ }
 {

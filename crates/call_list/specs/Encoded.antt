@@ -45,7 +45,8 @@ settingCall kind flag x =
     (cond (eqb kind 5) (windowStartCall x)
     (windowEndCall x))))
 
--- 8 a track's ranges, 9 the common ranges: calls that are lent a range list
+-- 8 a track's ranges, 9 the common ranges: calls that are lent a range list. A kind above 9 is taken for 9 by a single call; a list that
+-- has one is not run (Listed.antt).
 abbrev pub rangesCallOf : List ℕ → ℕ → Call
 rangesCallOf row lent = cond (eqb (getD row 0 0) 8) (rangesCall lent (trackOf (getD row 1 0))) (commonCall lent)
 

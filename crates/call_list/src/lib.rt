@@ -49,6 +49,7 @@ pub struct Step {
     pub state: State,
 }
 
+// A refusal's number as an answer has it.
 pub fn number_of(why: Refusal) -> usize
     ensures { λ r. ⌜ r ≡ refusalNumber why ⌝ }
 {
@@ -198,7 +199,7 @@ fn ranges_step(s: State, row: [u32; 5], list: &mut [[i64; 2]]) -> Step
     count_step(a, s)
 }
 
-// One call on any state: what it is, in numbers, and the lists lent to it.
+// One call on any state: what it is, in numbers, and the lists lent to it. A kind above COMMON_RANGES is taken for that one.
 pub fn make_call(
     s: State,
     row: [u32; 5],
