@@ -1,9 +1,9 @@
 // A line as a call on a buffer, all but creation, in the numbers of call_list.
-use crate::words::Room;
-use crate::words::Words;
-use crate::words::lent;
-use crate::words::part;
-use crate::words::word;
+use script::words::Room;
+use script::words::Words;
+use script::words::lent;
+use script::words::part;
+use script::words::word;
 use text::read::Double;
 use text::read::Small;
 use text::read::Whole;

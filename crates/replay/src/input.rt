@@ -1,6 +1,6 @@
 // Standard input, line by line.
 ghost use Prim.Native.Nat.{_≤_};
-use crate::words::part;
+use script::words::part;
 
 const NEWLINE: u8 = 10;
 

@@ -6,9 +6,6 @@ mod answers;
 mod calls;
 mod input;
 mod marks;
-mod pokes;
-mod slots;
-mod words;
 
 use buffer_state::Answer;
 use buffer_state::State;
@@ -16,12 +13,14 @@ use call_list::Step;
 use calls::Call;
 use calls::Parsed;
 use marks::PLACES;
-use pokes::Poked;
-use pokes::Verdict;
+use script::pokes;
+use script::pokes::Poked;
+use script::pokes::Verdict;
+use script::words;
+use script::words::Words;
 use slots::Session;
 use slots::Slot;
 use text::read::Small;
-use words::Words;
 
 const COMMENT: u8 = 35; // `#`
 

@@ -1,6 +1,5 @@
 // Pokes: one field of the state in a slot, written as it lies.
-use crate::slots::ALL;
-use crate::slots::Slot;
+ghost use Prim.Native.Nat.{_≤_};
 use crate::words::Words;
 use crate::words::begins;
 use crate::words::part;
@@ -13,6 +12,8 @@ use buffer_state::Settings;
 use buffer_state::State;
 use buffer_state::Track;
 use buffer_state::WindowEnd;
+use slots::ALL;
+use slots::Slot;
 use text::read::Double;
 use text::read::Small;
 use text::read::Whole;
@@ -474,21 +475,29 @@ fn unknown(slot: Slot) -> Poked {
     }
 }
 
+// The place named by the third word of five, from 1 to `most`; 0 where there is none.
+fn place(line: &[u8], w: Words, most: u32) -> usize
+    ensures { λ r. ⌜ r ≤ most ⌝ }
+{
+    if w.count != 5 {
+        return 0;
+    }
+    let Small::Is(i) = text::read::as_small(word(line, w, 2)) else {
+        return 0;
+    };
+    if most < i {
+        return 0;
+    }
+    i as usize
+}
+
 // `frame I FIELD N`
 fn poke_frame(slot: Slot, line: &[u8], w: Words) -> Poked {
-    let Small::Is(i) = text::read::as_small(word(line, w, 2)) else {
-        return unknown(slot);
-    };
-    if w.count != 5 {
-        return unknown(slot);
-    }
+    let i = place(line, w, 1024);
     if i < 1 {
         return unknown(slot);
     }
-    if 1024 < i {
-        return unknown(slot);
-    }
-    let at = (i - 1) as usize;
+    let at = i - 1;
     let mut s = slot.state;
     let p = poked_frame(s.frames[at], word(line, w, 3), word(line, w, 4));
     let f = p.frame;
@@ -499,19 +508,11 @@ fn poke_frame(slot: Slot, line: &[u8], w: Words) -> Poked {
 
 // `track I FIELD ..`
 fn poke_track(slot: Slot, line: &[u8], w: Words) -> Poked {
-    let Small::Is(i) = text::read::as_small(word(line, w, 2)) else {
-        return unknown(slot);
-    };
-    if w.count != 5 {
-        return unknown(slot);
-    }
+    let i = place(line, w, 4);
     if i < 1 {
         return unknown(slot);
     }
-    if 4 < i {
-        return unknown(slot);
-    }
-    let at = (i - 1) as usize;
+    let at = i - 1;
     let mut s = slot.state;
     let p = poked_track(
         s.tracks[at],

@@ -5,7 +5,7 @@ use lib.Dec.{eqb}
 use lib.ListN.{getD}
 use Rattle.buffer_state.specs.declared.State.{State}
 use Rattle.seconds.specs.Seconds.{zeroSeconds, sameDouble}
-use Rattle.replay.specs.declared.slots.Slot.{Slot}
+use Rattle.slots.specs.declared.Slot.{Slot}
 
 -- none of a track's three values set, or all, a bit each
 abbrev pub togetherOf : ℕ → Bool

@@ -2,8 +2,8 @@
 use Prim.Native.Nat.{_-_, _≤_}
 use lib.ListN.{length}
 use borrow.Author.Needs.{needs}
-use Rattle.replay.proofs.words.words_of.Statement.{statement}
-use Rattle.replay.proofs.words.words_of.Tie as tie
+use Rattle.script.proofs.words.words_of.Statement.{statement}
+use Rattle.script.proofs.words.words_of.Tie as tie
 
 abbrev Inv-loop : tie.InvT-loop
 Inv-loop line w₀ start₀ i₀ w start i = i ≤ length line

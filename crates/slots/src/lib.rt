@@ -1,6 +1,6 @@
 // The two buffers of a session and its saved state.
 ghost use mathlib.Core.Path.{_≡_};
-ghost use Rattle.replay.specs.Slots.{togetherOf, holdsAll, handedOf};
+ghost use Rattle.slots.specs.Slots.{togetherOf, holdsAll, handedOf};
 use buffer_state::State;
 use buffer_state::Track;
 

@@ -1,10 +1,10 @@
 -- By the one test.
 use mathlib.Core.Path.{sym, ap, _∙_}
 use mathlib.Core.Bool.{Bool, cond}
-use Rattle.replay.specs.Slots.{overfull}
+use Rattle.slots.specs.Slots.{overfull}
 use borrow.Author.Needs.{needs}
-use Rattle.replay.proofs.slots.handed.Statement.{statement}
-use Rattle.replay.proofs.slots.handed.Tie as tie
+use Rattle.slots.proofs.handed.Statement.{statement}
+use Rattle.slots.proofs.handed.Tie as tie
 
 holds-requires : tie.Need-holds-requires
 holds-requires c κs = search needs

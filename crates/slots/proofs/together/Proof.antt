@@ -1,7 +1,7 @@
 -- By the two tests.
 use borrow.Author.Tests.{eq-eqb, ne-eqb}
-use Rattle.replay.proofs.slots.together.Statement.{statement}
-use Rattle.replay.proofs.slots.together.Tie as tie
+use Rattle.slots.proofs.together.Statement.{statement}
+use Rattle.slots.proofs.together.Tie as tie
 
 returns : tie.Need-returns
 returns c = simp (eq-eqb _ _ (c .if1 .taken))

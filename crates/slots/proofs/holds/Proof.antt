@@ -4,8 +4,8 @@ use mathlib.Core.Bool.{Bool, true, false, _&&_}
 use lib.Ieee.{ofBits}
 use borrow.Author.Tests.{not-true, not-false}
 use borrow.Author.Needs.{needs}
-use Rattle.replay.proofs.slots.holds.Statement.{statement}
-use Rattle.replay.proofs.slots.holds.Tie as tie
+use Rattle.slots.proofs.holds.Statement.{statement}
+use Rattle.slots.proofs.holds.Tie as tie
 
 no : (a b : Bool) → a ≡ false → false ≡ (a && b)
 no a b h = sym (ap (λ (x : Bool). x && b) h)
