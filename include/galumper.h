@@ -49,7 +49,7 @@ enum galumper_cause {
     GALUMPER_NEEDS_POINT = 3,   /* dropped: its track waits for a random access point */
     GALUMPER_OVERLAPPED = 4,    /* removed: the appended frame took its place */
     GALUMPER_DEPENDED = 5,      /* removed: it depended on a frame that was removed */
-    GALUMPER_REMOVED = 6        /* removed: it lay in the stretch that was removed */
+    GALUMPER_REMOVED = 6        /* removed: by a removal, as it begins in the stretch that goes */
 };
 
 /* A coded frame as offered to an append. */
@@ -138,8 +138,9 @@ galumper_state galumper_create(const uint8_t *kinds, size_t ntracks);
  * its cause. `count` says how many lines there are; `lines` is at least 1,024. Refused 1, 2, 3, 4, 9, 7, 8. */
 galumper_state galumper_append(galumper_state state, galumper_offered frame, uint32_t (*fates)[2], size_t lines);
 
-/* Removes the frames of a stretch of time, in seconds; an end of plus infinity removes to the end. Fate lines are written as by
- * an append. Refused 1, 2, 5, 6. */
+/* Removes, on each track, the frames that begin from `start` up to the first random access point at or after `end` (in seconds), and
+ * the frames that depend on them; where there is no such point, or `end` is plus infinity, to the end. Fate lines are written as by an
+ * append. Refused 1, 2, 5, 6. */
 galumper_state galumper_remove(galumper_state state, double start, double end, uint32_t (*fates)[2], size_t lines);
 
 /* Aborts: every track waits for a random access point, and the append window is open again. Refused 1. */

@@ -89,7 +89,7 @@ pub data History : List ℕ → List Made → State → Type 0 where
 
 -- What holds of calls with their results, and of the state after them.
 pub record Account (es : List Entry) (t : State) : Type 0 where
-  -- the last number given is how many frames were offered and taken
+  -- the last number given is how many frames were offered and accepted
   pub last : t .last ≡ length (offers es)
   -- a stored frame stands on the track that the append of its number named
   pub placed : allOf (onOffered (offers es)) (bufferOf t .frames) ≡ true
@@ -104,7 +104,7 @@ pub record Claim (kinds : List ℕ) (ms : List Made) (t : State) : Type 0 where
   pub results : entries ms ≡ run (fresh kinds) (calls ms)
   -- and so is the last state
   pub state : t ≡ stateOf (lastOf (fresh kinds) (calls ms))
-  -- the frames offered and taken are numbered 1, 2, 3 and so on: after any n calls the last number given is how many there were
+  -- the frames offered and accepted are numbered 1, 2, 3 and so on: after any n calls the last number given is how many there were
   pub numbered : (n : ℕ) → lastOf (fresh kinds) (calls (take n ms)) .last ≡ length (offers (entries (take n ms)))
   pub account : Account (entries ms) t
   -- past the count, and after a refusal everywhere, a lent list holds what it held

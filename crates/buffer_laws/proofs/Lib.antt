@@ -13,3 +13,4 @@ pub mod RemoveLaws
 pub mod SettingLaws
 pub mod RunLaws
 pub mod AccountLaws
+pub mod KindLaws

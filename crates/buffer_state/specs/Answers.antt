@@ -25,7 +25,7 @@ use Rattle.buffer_state.specs.Remove.{remove}
 use Rattle.buffer_state.specs.Settings.{create, aborted, modeSet, offsetSet, windowStartSet, windowEndSet, Reading, reading}
 use Rattle.buffer_state.specs.Store.{Line}
 
--- a call that changes settings: after a refusal, the state that was handed in
+-- creation, abort and the setters: after a refusal, the state that is given first
 abbrev pub changed : State → Result Buffer → Changed
 changed s (refused why) = record { answer = Refused why; state = s }
 changed s (done b) = record { answer = Done; state = stateOf b }

@@ -1,4 +1,4 @@
--- Document 01, "Appending one frame": steps 1 to 9, then the call.
+-- Document 01, "Appending one frame": steps 1 to 9, then the call. Store order and the walk of step 8 are in Store.antt.
 use mathlib.Core.Bool.{Bool, true, false, cond, not, _&&_, _||_}
 use mathlib.Core.List.{List, [], _∷_}
 use Prim.Native.Nat.{ℕ, _+_, _*_}

@@ -1,4 +1,4 @@
--- How a State holds a buffer: arrays with zeros past the counts. And the calls on a State, each refused by 1 first.
+-- How a State holds a buffer: arrays with zeros past the counts. And refusal 1, which comes first in every call on a State.
 use mathlib.Core.Bool.{Bool, false, not, _&&_}
 use mathlib.Core.List.{List, _++_}
 use Prim.Native.Nat.{ℕ, _-_}

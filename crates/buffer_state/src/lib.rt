@@ -109,7 +109,8 @@ pub fn refusal_number(why: Refusal) -> u32
     }
 }
 
-// What creation, abort and the setters answer, and the state that they hand back: after a refusal the one that they were handed.
+// What creation, abort and the setters answer, and the state that they hand back: after a refusal the one that they were handed, or
+// zeros where a creation was refused.
 pub enum Answer {
     Done,
     Refused(Refusal),
@@ -127,7 +128,7 @@ pub enum Read {
     Refused(Refusal),
 }
 
-// What append and remove answer: how many fate lines they wrote, beside the state.
+// What append, remove and the range reports answer: how many fate lines or ranges they wrote.
 pub enum Count {
     Done(usize),
     Refused(Refusal),

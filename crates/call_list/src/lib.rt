@@ -20,7 +20,7 @@ ghost use Rattle.call_list.specs.Encoded.{trackOf, modeOf, offeredOf, li
 ghost use Rattle.call_list.specs.Replies.{replyOn, Stepped, writtenAt, CalledAt, Lined, Spanned, Quiet, plainStep, changeStep, countStep, readStep};
 ghost use Rattle.call_list.specs.Listed.{noted, listsOf, longEnough, rowFits, rangesOfRow, fits, fitsIn, endingFor, noRun, Ends, encodedCalls, Begun, Replayed};
 
-// The kinds of call. Up to REMOVE they are lent a fate list, from ABORT to WINDOW_END none, from TRACK_RANGES on a range list.
+// The kinds of call. Up to REMOVE they are lent a fate list, from ABORT to READ none, from TRACK_RANGES on a range list.
 pub const APPEND: u32 = 0;
 
 pub const REMOVE: u32 = 1;

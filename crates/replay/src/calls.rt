@@ -10,7 +10,7 @@ use text::read::Whole;
 
 const LINES: usize = 1024; // the lines lent where the script says nothing
 
-const PLACES: usize = 4096; // and the ranges
+const PLACES: usize = 4096; // the ranges lent where the script says nothing
 
 pub struct Call {
     pub kind: u32,

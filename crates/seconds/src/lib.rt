@@ -60,7 +60,7 @@ fn with_sign(negative: bool, n: u64) -> i64
 {
     let z = n as i64;
     if negative {
-        return 0 - z;
+        return -z;
     }
     z
 }
@@ -75,7 +75,7 @@ fn in_range(x: f64) -> bool
     x <= 1000000.0
 }
 
-// The microsecond nearest to x seconds. A double is (HIDDEN + digits) * 2^(exponent - 1075), and 1000000 is 15625 * 2^6,
+// The microsecond nearest to x seconds. A normal double is (HIDDEN + digits) * 2^(exponent - 1075), and 1000000 is 15625 * 2^6,
 // so it is (HIDDEN + digits) * 15625 / 2^(1069 - exponent) microseconds. Below 2^-21 seconds that rounds to none.
 pub fn micros_of(x: f64) -> Micros
     ensures { λ r. ⌜ r ≡ microsAnswer x ⌝ }

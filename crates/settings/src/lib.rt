@@ -1,4 +1,4 @@
-// Creation, abort, the setters and the readings: the calls that move no frames. Refusal 1 comes first in each, and a refused
+// Creation, abort, the setters and reading the settings back. Refusal 1 comes first in each, and a refused
 // call hands back the state that it was handed.
 ghost use mathlib.Core.Path.{_≡_};
 ghost use mathlib.Core.Bool.{cond};

@@ -1,11 +1,31 @@
--- What a slot holds beside its state, and the state that a call is handed.
-use mathlib.Core.Bool.{Bool, cond, _&&_, _||_}
+-- What a slot holds beside its state, the state that a call is handed, and the slot in use.
+use mathlib.Core.Bool.{Bool, true, cond, _&&_, _||_}
+use mathlib.Core.List.{[], _∷_}
 use Prim.Native.Nat.{ℕ}
 use lib.Dec.{eqb}
 use lib.ListN.{getD}
 use Rattle.buffer_state.specs.declared.State.{State}
+use Rattle.buffer_state.specs.declared.Track.{Track}
+use Rattle.buffer_state.specs.Buffer.{zeroTrack}
 use Rattle.seconds.specs.Seconds.{zeroSeconds, sameDouble}
 use Rattle.slots.specs.declared.Slot.{Slot}
+use Rattle.slots.specs.declared.Session.{Session}
+
+-- which of a track's three values are set: all or none, a bit each
+abbrev pub setOf : Track → ℕ
+setOf t = cond (t .known) 7 0
+
+-- the slot of a state that a call gave
+abbrev pub slotOf : State → Slot
+slotOf s = record {
+  held = true;
+  state = s;
+  sets = at 0 ∷ at 1 ∷ at 2 ∷ at 3 ∷ [];
+  spare = zeroSeconds;
+}
+  where
+    at : ℕ → ℕ
+    at i = setOf (getD (s .tracks) i zeroTrack)
 
 -- none of a track's three values set, or all, a bit each
 abbrev pub togetherOf : ℕ → Bool
@@ -36,3 +56,16 @@ overfull s = record {
 -- the state of the slot where that says all, else one that is not well-formed either
 abbrev pub handedOf : Slot → State
 handedOf slot = cond (holdsAll slot) (slot .state) (overfull (slot .state))
+
+abbrev pub usedOf : Session → Slot
+usedOf s = cond (s .«second_used») (s .second) (s .first)
+
+-- the session with another slot in use
+abbrev pub withUsed : Session → Slot → Session
+withUsed s slot = record {
+  first = cond (s .«second_used») (s .first) slot;
+  second = cond (s .«second_used») slot (s .second);
+  saved = s .saved;
+  «second_used» = s .«second_used»;
+  frames = s .frames;
+}

@@ -1,6 +1,6 @@
 // The two buffers of a session and its saved state.
 ghost use mathlib.Core.Path.{_≡_};
-ghost use Rattle.slots.specs.Slots.{togetherOf, holdsAll, handedOf};
+ghost use Rattle.slots.specs.Slots.{setOf, slotOf, togetherOf, holdsAll, handedOf, usedOf, withUsed};
 use buffer_state::State;
 use buffer_state::Track;
 
@@ -23,7 +23,9 @@ pub struct Session {
     pub frames: u32, // lines that belong to a batch
 }
 
-fn set_of(t: Track) -> u8 {
+fn set_of(t: Track) -> u8
+    ensures { λ r. ⌜ r ≡ setOf t ⌝ }
+{
     if t.known {
         return ALL;
     }
@@ -31,7 +33,9 @@ fn set_of(t: Track) -> u8 {
 }
 
 // A state that a call gave.
-pub fn slot_of(state: State) -> Slot {
+pub fn slot_of(state: State) -> Slot
+    ensures { λ r. ⌜ r ≡ slotOf state ⌝ }
+{
     let sets = [
         set_of(state.tracks[0]),
         set_of(state.tracks[1]),
@@ -106,14 +110,18 @@ pub fn handed(slot: Slot) -> State
 }
 
 // The slot in use.
-pub fn used(s: Session) -> Slot {
+pub fn used(s: Session) -> Slot
+    ensures { λ r. ⌜ r ≡ usedOf s ⌝ }
+{
     if s.second_used {
         return s.second;
     }
     s.first
 }
 
-pub fn with_used(s: Session, slot: Slot) -> Session {
+pub fn with_used(s: Session, slot: Slot) -> Session
+    ensures { λ r. ⌜ r ≡ withUsed s slot ⌝ }
+{
     let mut t = s;
     if t.second_used {
         t.second = slot;

@@ -49,7 +49,8 @@ impl State {
         self.counted()
     }
 
-    /// Removes a stretch of time; gives the count of fate lines.
+    /// Removes, on each track, the frames that begin from `start` up to the first random access
+    /// point at or after `end`; gives the count of fate lines.
     pub fn remove(&mut self, start: f64, end: f64, fates: &mut [Fate]) -> Result<usize, Refusal> {
         let (lines, length) = (fates.as_mut_ptr(), fates.len());
         // SAFETY: pointer and length are those of a slice.
