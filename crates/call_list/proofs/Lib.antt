@@ -1,4 +1,3 @@
-pub mod ReplyLaws
 pub mod PartLaws
 pub mod ShapeLaws
 pub mod ListedLaws

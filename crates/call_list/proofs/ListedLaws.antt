@@ -14,7 +14,7 @@ use Rattle.buffer_state.specs.Store.{Line}
 use Rattle.buffer_laws.proofs.RunLaws.{numbersAfter, run-lawful}
 use Rattle.buffer_laws.proofs.StoreLaws.{frameWeight}
 use Rattle.call_list.specs.Listed.{allOut, Filled}
-use Rattle.call_list.specs.Replies.{writtenAt}
+use Rattle.call_rows.specs.Replies.{writtenAt}
 
 -- ---- one call more
 

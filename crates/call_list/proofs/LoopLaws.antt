@@ -24,9 +24,9 @@ use Rattle.buffer_laws.proofs.LayoutLaws.{good-well-formed, buffer-back}
 use Rattle.buffer_laws.proofs.RunLaws.{run-lawful}
 use Rattle.buffer_laws.proofs.TestLaws.{all-first, all-rest}
 use Rattle.call_list.specs.declared.Ending.the-variants.{Done}
-use Rattle.call_list.specs.declared.Step.{Step}
-use Rattle.call_list.specs.Encoded.{ofLines, ofRanges, rowCall}
-use Rattle.call_list.specs.Replies.{Replied, laidReply, replyOn, stepOf, sizeOf, rangesIn, writtenAt, CalledAt}
+use Rattle.call_rows.specs.declared.Step.{Step}
+use Rattle.call_rows.specs.Encoded.{ofLines, ofRanges, rowCall}
+use Rattle.call_rows.specs.Replies.{Replied, laidReply, replyOn, stepOf, sizeOf, rangesIn, writtenAt, CalledAt}
 use Rattle.call_list.specs.Listed.{firstCalls, encodedCalls, answerOf, readingsIn, allOut, noted, Filled, Lists, rowFits, rangesOfRow, longEnough, fits, fitsIn, Replayed}
 use Rattle.call_list.proofs.ListedLaws.{entryOf, last-more, run-more, out-more, lines-out, map-append, filled-none, filled-more, refilled, set-written, lines-few}
 use Rattle.call_list.proofs.ShapeLaws.{Shape, row-shape}

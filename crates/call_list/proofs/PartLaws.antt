@@ -14,9 +14,9 @@ use Rattle.laws.proofs.BoolLaws.{split}
 use Rattle.buffer_state.specs.declared.State.{State}
 use Rattle.buffer_state.specs.Answers.{written, laid}
 use Rattle.buffer_state.specs.Run.{Call, linesIn}
-use Rattle.call_list.specs.declared.Step.{Step}
-use Rattle.call_list.specs.Encoded.{callOf, ofLines, ofRanges, rowCall}
-use Rattle.call_list.specs.Replies.{replyOn, rangesIn, Stepped, writtenAt, CalledAt}
+use Rattle.call_rows.specs.declared.Step.{Step}
+use Rattle.call_rows.specs.Encoded.{callOf, ofLines, ofRanges, rowCall}
+use Rattle.call_rows.specs.Replies.{replyOn, rangesIn, Stepped, writtenAt, CalledAt}
 
 -- a row's call is lent as many places as its kind makes of what the row asks for
 call-lent : (row : List ℕ) (times : List ℤ) (seconds : List Float)

@@ -17,8 +17,8 @@ use Rattle.buffer_state.specs.Refusals.{Result, refused, done}
 use Rattle.buffer_state.specs.Remove.{remove}
 use Rattle.buffer_state.specs.Run.{Call, readCall, Answer, byOutcome, bySetting, byRanges, replyTo, linesIn}
 use Rattle.buffer_state.specs.Settings.{offsetSet, windowStartSet, windowEndSet}
-use Rattle.call_list.specs.Encoded.{trackOf, offeredOf, linesCall, settingCall, rangesCallOf, ofLines, ofRanges, rowCall}
-use Rattle.call_list.specs.Replies.{sizeOf, doublesIn, rangesIn}
+use Rattle.call_rows.specs.Encoded.{trackOf, offeredOf, linesCall, settingCall, rangesCallOf, ofLines, ofRanges, rowCall}
+use Rattle.call_rows.specs.Replies.{sizeOf, doublesIn, rangesIn}
 use Rattle.call_list.specs.Listed.{noted, readingsIn}
 
 pub record Shape (kind places : ℕ) (r : Result Answer) : Type 0 where

@@ -1,3 +1,1 @@
-pub mod Encoded
-pub mod Replies
 pub mod Listed

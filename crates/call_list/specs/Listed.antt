@@ -19,8 +19,8 @@ use Rattle.account.specs.History.{Account}
 use Rattle.call_list.specs.declared.Ending as End
 use Rattle.call_list.specs.declared.Ending.the-variants.{Done, Unfit, Refused}
 use Rattle.call_list.specs.declared.Ran.{Ran}
-use Rattle.call_list.specs.Encoded.{ofLines, ofRanges, rowCall}
-use Rattle.call_list.specs.Replies.{numberOf, sizeOf, doublesIn, rangesIn}
+use Rattle.call_rows.specs.Encoded.{ofLines, ofRanges, rowCall}
+use Rattle.call_rows.specs.Replies.{numberOf, sizeOf, doublesIn, rangesIn}
 
 -- ---- the calls
 

@@ -1,4 +1,4 @@
-// A line as a call on a buffer, all but creation, in the numbers of call_list.
+// A line as a call on a buffer, all but creation, in the numbers of call_rows.
 use script::words::Room;
 use script::words::Words;
 use script::words::lent;
@@ -85,7 +85,7 @@ fn append_call(line: &[u8], w: Words) -> Parsed {
         pts,
         dts,
         lines,
-        ..bare(call_list::APPEND)
+        ..bare(call_rows::APPEND)
     })
 }
 
@@ -103,7 +103,7 @@ fn remove_call(line: &[u8], w: Words) -> Parsed {
         start,
         end,
         lines,
-        ..bare(call_list::REMOVE)
+        ..bare(call_rows::REMOVE)
     })
 }
 
@@ -121,12 +121,12 @@ fn mode_call(line: &[u8], w: Words) -> Parsed {
     }
     let mode = word(line, w, 1);
     if check::same(mode, b"segments") {
-        return Parsed::Call(bare(call_list::MODE));
+        return Parsed::Call(bare(call_rows::MODE));
     }
     if check::same(mode, b"sequence") {
         return Parsed::Call(Call {
             flag: 1,
-            ..bare(call_list::MODE)
+            ..bare(call_rows::MODE)
         });
     }
     Parsed::Unknown
@@ -156,7 +156,7 @@ fn ranges_call(line: &[u8], w: Words) -> Parsed {
     Parsed::Call(Call {
         track,
         places,
-        ..bare(call_list::TRACK_RANGES)
+        ..bare(call_rows::TRACK_RANGES)
     })
 }
 
@@ -166,7 +166,7 @@ fn common_call(line: &[u8], w: Words) -> Parsed {
     };
     Parsed::Call(Call {
         places,
-        ..bare(call_list::COMMON_RANGES)
+        ..bare(call_rows::COMMON_RANGES)
     })
 }
 
@@ -179,22 +179,22 @@ pub fn call_of(line: &[u8], w: Words) -> Parsed {
         return remove_call(line, w);
     }
     if check::same(name, b"abort") {
-        return bare_call(call_list::ABORT, w);
+        return bare_call(call_rows::ABORT, w);
     }
     if check::same(name, b"mode") {
         return mode_call(line, w);
     }
     if check::same(name, b"offset") {
-        return seconds_call(call_list::OFFSET, line, w);
+        return seconds_call(call_rows::OFFSET, line, w);
     }
     if check::same(name, b"window-start") {
-        return seconds_call(call_list::WINDOW_START, line, w);
+        return seconds_call(call_rows::WINDOW_START, line, w);
     }
     if check::same(name, b"window-end") {
-        return seconds_call(call_list::WINDOW_END, line, w);
+        return seconds_call(call_rows::WINDOW_END, line, w);
     }
     if check::same(name, b"settings") {
-        return bare_call(call_list::READ, w);
+        return bare_call(call_rows::READ, w);
     }
     if check::same(name, b"ranges") {
         return ranges_call(line, w);

@@ -9,7 +9,7 @@ mod marks;
 
 use buffer_state::Answer;
 use buffer_state::State;
-use call_list::Step;
+use call_rows::Step;
 use calls::Call;
 use calls::Parsed;
 use marks::PLACES;
@@ -29,10 +29,10 @@ const COMMENT: u8 = 35; // `#`
 // Whether what a call must leave as it was still holds the marks: the places past the count in the list that it writes, and the other
 // list whole.
 fn untouched(kind: u32, count: usize, fates: &[[u32; 2]], list: &[[i64; 2]]) -> bool {
-    if kind <= call_list::REMOVE {
+    if kind <= call_rows::REMOVE {
         return marks::marked(fates, count, list, 0);
     }
-    if kind < call_list::TRACK_RANGES {
+    if kind < call_rows::TRACK_RANGES {
         return marks::marked(fates, 0, list, 0);
     }
     marks::marked(fates, 0, list, count)
@@ -40,16 +40,16 @@ fn untouched(kind: u32, count: usize, fates: &[[u32; 2]], list: &[[i64; 2]]) -> 
 
 // What a call that was not refused answers.
 fn done(kind: u32, count: usize, doubles: [f64; 3], fates: &[[u32; 2]], list: &[[i64; 2]]) {
-    if kind == call_list::READ {
+    if kind == call_rows::READ {
         answers::settings(count, doubles);
         return;
     }
     text::put(b"ok");
-    if kind <= call_list::REMOVE {
+    if kind <= call_rows::REMOVE {
         text::put(b" ");
         text::fates(fates, count);
     }
-    if call_list::TRACK_RANGES <= kind {
+    if call_rows::TRACK_RANGES <= kind {
         text::put(b" ");
         text::ranges(list, count);
     }
@@ -78,7 +78,7 @@ fn made(state: State, c: Call, fates: &mut [[u32; 2]], list: &mut [[i64; 2]]) ->
     let seconds = [c.start, c.end];
     let lines = c.lines;
     let places = c.places;
-    call_list::make_call(
+    call_rows::make_call(
         state,
         row,
         times,
@@ -139,7 +139,7 @@ fn create(slot: Slot, line: &[u8]) -> Slot {
             slots::slot_of(s)
         }
         Answer::Refused(why) => {
-            answers::refused(call_list::number_of(why));
+            answers::refused(call_rows::number_of(why));
             text::put(b"\n");
             slot
         }

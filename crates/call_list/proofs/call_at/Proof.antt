@@ -3,7 +3,7 @@ use mathlib.Core.Path.{_≡_, ap, _∙_}
 use Prim.Native.Nat.{ℕ, _+_, _-_, _≤_}
 use native.Mathlib.Omega.{arith}
 use lib.ListN.{length, getD}
-use Rattle.call_list.specs.Encoded.{ofLines, ofRanges}
+use Rattle.call_rows.specs.Encoded.{ofLines, ofRanges}
 use Rattle.call_list.proofs.PartLaws.{called-at}
 use borrow.Author.Needs.{needs}
 use Rattle.call_list.proofs.call_at.Statement.{statement}

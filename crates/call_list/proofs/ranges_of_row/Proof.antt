@@ -1,7 +1,7 @@
 -- By its two parts.
 use mathlib.Core.Path.{ap, _∙_}
 use lib.ListN.{getD}
-use Rattle.call_list.specs.Encoded.{ofRanges}
+use Rattle.call_rows.specs.Encoded.{ofRanges}
 use borrow.Author.Needs.{needs}
 use Rattle.call_list.proofs.ranges_of_row.Statement.{statement}
 use Rattle.call_list.proofs.ranges_of_row.Tie as tie

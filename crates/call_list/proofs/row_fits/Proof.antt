@@ -4,7 +4,7 @@ use mathlib.Core.Bool.{_&&_}
 use Prim.Native.Nat.{ℕ}
 use lib.Dec.{leb}
 use lib.ListN.{getD}
-use Rattle.call_list.specs.Encoded.{ofLines}
+use Rattle.call_rows.specs.Encoded.{ofLines}
 use borrow.Author.Needs.{needs}
 use Rattle.call_list.proofs.row_fits.Statement.{statement}
 use Rattle.call_list.proofs.row_fits.Tie as tie

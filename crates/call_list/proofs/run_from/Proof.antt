@@ -8,7 +8,7 @@ use lib.ListN.{length, getD, set}
 use mir.Syntax.{w64}
 use mir.Val.{Fits}
 use Rattle.buffer_state.specs.Layout.{bufferOf}
-use Rattle.call_list.specs.Encoded.{ofLines, ofRanges}
+use Rattle.call_rows.specs.Encoded.{ofLines, ofRanges}
 use Rattle.call_list.specs.Listed.{listsOf}
 use Rattle.call_list.proofs.ListedLaws.{filled-inside}
 use Rattle.call_list.proofs.LoopLaws.{Room, room, Sofar, sofar-none, lines-room, ranges-room, turn, ended}

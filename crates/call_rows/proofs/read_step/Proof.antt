@@ -3,11 +3,11 @@ use mathlib.Core.Path.{_≡_, sym, ap, _∙_}
 use Prim.Native.Nat.{ℕ}
 use lib.Ieee.{ofBits}
 use Rattle.buffer_state.specs.declared.Read.{Read}
-use Rattle.call_list.specs.Replies.{plainStep, readStep}
+use Rattle.call_rows.specs.Replies.{plainStep, readStep}
 use Rattle.buffer_state.specs.declared.Read.the-variants.{Bounded, Unbounded, Refused}
 use borrow.Author.Needs.{needs}
-use Rattle.call_list.proofs.read_step.Statement.{statement}
-use Rattle.call_list.proofs.read_step.Tie as tie
+use Rattle.call_rows.proofs.read_step.Statement.{statement}
+use Rattle.call_rows.proofs.read_step.Tie as tie
 
 enum-known-answer : tie.Need-enum-known-answer
 enum-known-answer c = search needs

@@ -22,7 +22,7 @@ use Rattle.buffer_state.specs.Layout.{stateOf, bufferOf, wellFormed}
 use Rattle.buffer_state.specs.Ranges.{Range}
 use Rattle.buffer_state.specs.Refusals.{Result, refused, done, refusalNumber}
 use Rattle.buffer_state.specs.Run.{Call, Answer, ok, fates, settings, ranges, Reply, replyTo, linesIn}
-use Rattle.call_list.specs.declared.Step.{Step}
+use Rattle.call_rows.specs.declared.Step.{Step}
 
 -- a call's result and the state after it
 pub record Replied : Type 0 where

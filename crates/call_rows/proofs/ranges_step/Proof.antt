@@ -1,8 +1,8 @@
 -- A track's ranges or the common ones, each by its law.
-use Rattle.call_list.proofs.ReplyLaws.{track-spanned, common-spanned}
+use Rattle.call_rows.proofs.ReplyLaws.{track-spanned, common-spanned}
 use borrow.Author.Needs.{needs}
-use Rattle.call_list.proofs.ranges_step.Statement.{statement}
-use Rattle.call_list.proofs.ranges_step.Tie as tie
+use Rattle.call_rows.proofs.ranges_step.Statement.{statement}
+use Rattle.call_rows.proofs.ranges_step.Tie as tie
 
 array-read-if1 : tie.Need-array-read-if1
 array-read-if1 c = search needs

@@ -3,10 +3,10 @@ use lib.IntN.{pos}
 use lib.ListN.{getD}
 use mir.Syntax.{w64}
 use mir.ValLaws.{toZ-ofZ}
-use Rattle.call_list.specs.Encoded.{flagOf}
+use Rattle.call_rows.specs.Encoded.{flagOf}
 use borrow.Author.Needs.{needs}
-use Rattle.call_list.proofs.offered_of.Statement.{statement}
-use Rattle.call_list.proofs.offered_of.Tie as tie
+use Rattle.call_rows.proofs.offered_of.Statement.{statement}
+use Rattle.call_rows.proofs.offered_of.Tie as tie
 
 array-read-track-of : tie.Need-array-read-track-of
 array-read-track-of c = search needs

@@ -1,8 +1,8 @@
 -- By the kind of call: what the part for that kind says.
-use Rattle.call_list.proofs.ReplyLaws.{made-lines, made-change, made-reading, made-ranges}
+use Rattle.call_rows.proofs.ReplyLaws.{made-lines, made-change, made-reading, made-ranges}
 use borrow.Author.Needs.{needs}
-use Rattle.call_list.proofs.make_call.Statement.{statement}
-use Rattle.call_list.proofs.make_call.Tie as tie
+use Rattle.call_rows.proofs.make_call.Statement.{statement}
+use Rattle.call_rows.proofs.make_call.Tie as tie
 
 array-read-kind : tie.Need-array-read-kind
 array-read-kind c = search needs

@@ -1,8 +1,8 @@
 -- By the kind of call, each by its law.
-use Rattle.call_list.proofs.ReplyLaws.{abort-quiet, mode-quiet, offset-quiet, window-start-quiet, window-end-quiet}
+use Rattle.call_rows.proofs.ReplyLaws.{abort-quiet, mode-quiet, offset-quiet, window-start-quiet, window-end-quiet}
 use borrow.Author.Needs.{needs}
-use Rattle.call_list.proofs.changed.Statement.{statement}
-use Rattle.call_list.proofs.changed.Tie as tie
+use Rattle.call_rows.proofs.changed.Statement.{statement}
+use Rattle.call_rows.proofs.changed.Tie as tie
 
 abort-requires : tie.Need-abort-requires
 abort-requires c κs = search needs

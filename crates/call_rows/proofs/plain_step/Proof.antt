@@ -1,8 +1,8 @@
 -- By computation.
 use mathlib.Core.Path.{refl}
 use lib.Ieee.{ofBits}
-use Rattle.call_list.proofs.plain_step.Statement.{statement}
-use Rattle.call_list.proofs.plain_step.Tie as tie
+use Rattle.call_rows.proofs.plain_step.Statement.{statement}
+use Rattle.call_rows.proofs.plain_step.Tie as tie
 
 returns : tie.Need-returns
 unfolding ofBits

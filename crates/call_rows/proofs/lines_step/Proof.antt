@@ -1,8 +1,8 @@
 -- Append or remove, each by its law.
-use Rattle.call_list.proofs.ReplyLaws.{append-lined, remove-lined}
+use Rattle.call_rows.proofs.ReplyLaws.{append-lined, remove-lined}
 use borrow.Author.Needs.{needs}
-use Rattle.call_list.proofs.lines_step.Statement.{statement}
-use Rattle.call_list.proofs.lines_step.Tie as tie
+use Rattle.call_rows.proofs.lines_step.Statement.{statement}
+use Rattle.call_rows.proofs.lines_step.Tie as tie
 
 array-read-if1 : tie.Need-array-read-if1
 array-read-if1 c = search needs

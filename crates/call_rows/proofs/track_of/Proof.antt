@@ -1,8 +1,8 @@
 -- Up to 255 the number itself, above it 255.
 use borrow.Author.Tests.{le-leb, lt-leb}
 use borrow.Author.Needs.{needs}
-use Rattle.call_list.proofs.track_of.Statement.{statement}
-use Rattle.call_list.proofs.track_of.Tie as tie
+use Rattle.call_rows.proofs.track_of.Statement.{statement}
+use Rattle.call_rows.proofs.track_of.Tie as tie
 
 cast-result : tie.Need-cast-result
 cast-result c = search needs

@@ -3,10 +3,10 @@ use mathlib.Core.Path.{_≡_, sym, ap, _∙_}
 use Prim.Native.Nat.{ℕ}
 use Rattle.buffer_state.specs.declared.Count.{Count}
 use Rattle.buffer_state.specs.declared.Count.the-variants.{Done, Refused}
-use Rattle.call_list.specs.Replies.{plainStep, countStep}
+use Rattle.call_rows.specs.Replies.{plainStep, countStep}
 use borrow.Author.Needs.{needs}
-use Rattle.call_list.proofs.count_step.Statement.{statement}
-use Rattle.call_list.proofs.count_step.Tie as tie
+use Rattle.call_rows.proofs.count_step.Statement.{statement}
+use Rattle.call_rows.proofs.count_step.Tie as tie
 
 enum-known-answer : tie.Need-enum-known-answer
 enum-known-answer c = search needs

@@ -3,10 +3,10 @@ use mathlib.Core.Path.{_≡_, sym, ap, _∙_}
 use Prim.Native.Nat.{ℕ}
 use Rattle.buffer_state.specs.declared.Answer.{Answer}
 use Rattle.buffer_state.specs.declared.Answer.the-variants.{Done, Refused}
-use Rattle.call_list.specs.Replies.{plainStep, changeStep}
+use Rattle.call_rows.specs.Replies.{plainStep, changeStep}
 use borrow.Author.Needs.{needs}
-use Rattle.call_list.proofs.change_step.Statement.{statement}
-use Rattle.call_list.proofs.change_step.Tie as tie
+use Rattle.call_rows.proofs.change_step.Statement.{statement}
+use Rattle.call_rows.proofs.change_step.Tie as tie
 
 enum-told : tie.Need-enum-told
 enum-told c = search needs

@@ -31,9 +31,9 @@ use Rattle.buffer_state.specs.Run.{Call, appendCall, removeCall, abortCall, mod
 use Rattle.buffer_state.specs.Settings.{aborted, modeSet, offsetSet, windowStartSet, windowEndSet, Reading, reading}
 use Rattle.buffer_laws.proofs.LayoutLaws.{ill-formed-refused, on-well-formed, state-back}
 use Rattle.ranges.specs.Bars.{Reported}
-use Rattle.call_list.specs.declared.Step.{Step}
-use Rattle.call_list.specs.Encoded.{trackOf, modeOf, offeredOf, linesCall, settingCall, rangesCallOf, callOf}
-use Rattle.call_list.specs.Replies.{Replied, laidReply, replyOn, Stepped, Lined, Spanned, Quiet, plainStep, changeStep, countStep, readStep}
+use Rattle.call_rows.specs.declared.Step.{Step}
+use Rattle.call_rows.specs.Encoded.{trackOf, modeOf, offeredOf, linesCall, settingCall, rangesCallOf, callOf}
+use Rattle.call_rows.specs.Replies.{Replied, laidReply, replyOn, Stepped, Lined, Spanned, Quiet, plainStep, changeStep, countStep, readStep}
 
 -- by cases of whether the state is well-formed
 on-reply : (P : Replied → Type 0) (c : Call) (s : State)

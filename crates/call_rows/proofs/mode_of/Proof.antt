@@ -1,7 +1,7 @@
 -- By cases of the flag.
 use borrow.Author.Tests.{eq-eqb, ne-eqb}
-use Rattle.call_list.proofs.mode_of.Statement.{statement}
-use Rattle.call_list.proofs.mode_of.Tie as tie
+use Rattle.call_rows.proofs.mode_of.Statement.{statement}
+use Rattle.call_rows.proofs.mode_of.Tie as tie
 
 returns : tie.Need-returns
 returns c = rw (eq-eqb (c .before .args .n) 0 (c .if1 .taken))
