@@ -12,6 +12,7 @@ use lib.IntN.{ℤ}
 use lib.Ieee.{Float}
 use lib.ListN.{length, take}
 use Rattle.laws.proofs.BoolLaws.{clash, by-test}
+use Rattle.laws.proofs.ListLaws.{take-map}
 use Rattle.buffer_state.specs.declared.Answer as Code
 use Rattle.buffer_state.specs.declared.Answer.the-variants.{Done, Refused}
 use Rattle.buffer_state.specs.declared.Changed.{Changed}
@@ -126,11 +127,6 @@ pub fresh-good : (kinds : List ℕ) → create kinds ≡ done (fresh kinds) → 
 fresh-good kinds made = rw made at (created-good kinds)
 
 -- ---- the first n of a run
-
-take-map : {A B : Type 0} (f : A → B) (n : ℕ) (l : List A) → map f (take n l) ≡ take n (map f l)
-take-map f zero l = refl
-take-map f (suc n) [] = refl
-take-map f (suc n) (x ∷ l) = λ i. f x ∷ take-map f n l i
 
 take-run : (b : Buffer) (n : ℕ) (cs : List Call) → run b (take n cs) ≡ take n (run b cs)
 unfolding run

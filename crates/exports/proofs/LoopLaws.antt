@@ -1,7 +1,6 @@
--- A loop over all the frames: when it ends, every element is converted, and every one is tested beside what was tested before.
-use mathlib.Core.Path.{_≡_, sym, ap, ap₂, _∙_}
+-- A loop over all the frames: when it ends, every one is tested beside what was tested before.
+use mathlib.Core.Path.{_≡_, ap, ap₂, _∙_}
 use mathlib.Core.Bool.{Bool, _&&_}
-use mathlib.Core.List.{List, map}
 use Prim.Native.Nat.{ℕ, _≤_}
 use lib.ListN.{length, take}
 use lib.Seq.{take-all}
@@ -9,10 +8,6 @@ use Rattle.buffer_state.specs.WellFormed.{allOf}
 use Rattle.exports.specs.declared.Flat.{Flat}
 use Rattle.exports.specs.Flat.{plainFrame, plainHead, plain}
 use Rattle.exports.proofs.CopyLaws.{and-assoc}
-
-pub all-mapped : {A B : Type 0} (f : A → B) (l : List A) (out : List B) (i : ℕ) → length l ≤ i → length out ≤ i
-    → take i out ≡ map f (take i l) → out ≡ map f l
-all-mapped f l out i h k e = sym (take-all i out k) ∙ e ∙ ap (map f) (take-all i l h)
 
 pub all-tested : (c : Flat) (told before ok : Bool) (i : ℕ) → length (c .frames) ≤ i → before ≡ (told && plainHead c)
     → ok ≡ (before && allOf plainFrame (take i (c .frames))) → ok ≡ (told && plain c)

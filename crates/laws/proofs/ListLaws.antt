@@ -1,15 +1,20 @@
 -- Lists under a loop: the first n elements of an array, read or mapped one at a time.
-use mathlib.Core.Path.{_≡_, sym, ap₂, _∙_}
+use mathlib.Core.Path.{_≡_, refl, sym, ap, ap₂, _∙_}
 use mathlib.Core.List.{List, [], _∷_, _++_, map, map-append}
-use Prim.Native.Nat.{ℕ, suc, _+_, _≤_, _<_}
+use Prim.Native.Nat.{ℕ, zero, suc, _+_, _≤_, _<_}
 use native.Mathlib.Numerals.{add-one}
 use native.Mathlib.Omega.{arith}
 use lib.ListN.{length, take, drop, getD, set, length-take, length-map, drop-of-length-le}
-use lib.Seq.{drop-cons, getD-take, getD-at, set-at, append-snoc, take-suc, take-suc-set}
+use lib.Seq.{drop-cons, getD-take, getD-at, set-at, append-snoc, take-suc, take-suc-set, take-all}
 
 -- what owning a struct says of a field that is an array
 pub mapped-length : {A B : Type 0} (f : A → B) (l : List A) (n : ℕ) → length (map f l) ≡ n → length l ≡ n
 mapped-length f l n e = sym (length-map l f) ∙ e
+
+pub take-map : {A B : Type 0} (f : A → B) (n : ℕ) (l : List A) → map f (take n l) ≡ take n (map f l)
+take-map f zero l = refl
+take-map f (suc n) [] = refl
+take-map f (suc n) (x ∷ l) = λ i. f x ∷ take-map f n l i
 
 module _ {A : Type 0} (l : List A) (n : ℕ) (k : n ≤ length l) where
   pub first-length : length (take n l) ≡ n
@@ -30,6 +35,11 @@ pub mapped-more : {A B : Type 0} (f : A → B) (l : List A) (out : List B) (i : 
 mapped-more {B = B} f l out i z x h k e d =
     rw (add-one, take-suc-set out i x k, take-suc l i z h, map-append f (take i l) (getD l i z ∷ []))
     (ap₂ (λ (p : List B) (y : B). p ++ (y ∷ [])) e d)
+
+-- all of them are
+pub all-mapped : {A B : Type 0} (f : A → B) (l : List A) (out : List B) (i : ℕ) → length l ≤ i → length out ≤ i
+    → take i out ≡ map f (take i l) → out ≡ map f l
+all-mapped f l out i h k e = sym (take-all i out k) ∙ e ∙ ap (map f) (take-all i l h)
 
 -- an array is mapped in place, from its front
 module _ {A : Type 0} (f : A → A) (l : List A) where

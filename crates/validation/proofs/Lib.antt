@@ -1,6 +1,6 @@
 pub mod LimitLaws
 pub mod PlaceLaws
-pub mod SortedLaws
+pub mod ExaminedLaws
 pub mod DistinctLaws
 pub mod SettingsLaws
 pub mod WholeLaws

@@ -29,7 +29,7 @@ module _ {A : Type 0} (used past : A → Bool) where
 
   -- one turn of a loop over all places
   module _ (n : ℕ) (l : List A) (i : ℕ) (z : A) where
-    placed-next : i < length l → placed used past (n - i) (drop i l)
+    pub placed-next : i < length l → placed used past (n - i) (drop i l)
         ≡ (cond (ltb i n) (used (getD l i z)) (past (getD l i z)) && placed used past (n - (i + 1)) (drop (i + 1) l))
     placed-next h =
         let left : ltb 0 (n - i) ≡ ltb i n = split (ltb i n)

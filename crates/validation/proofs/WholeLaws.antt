@@ -11,22 +11,19 @@ use Rattle.buffer_state.specs.declared.Frame.{Frame}
 use Rattle.buffer_state.specs.declared.State.{State}
 use Rattle.buffer_state.specs.Layout.{isZeroFrame, isZeroTrack, laidOut, wellFormed}
 use Rattle.buffer_state.specs.WellFormed.{allOf, goodTrack, goodTracks, goodFrame, goodFrames, sorted, distinctNumbers, goodGroup, goodSettings, goodBuffer}
-use Rattle.validation.specs.Places.{placed}
+use Rattle.validation.specs.Places.{placed, framesPlaced}
 use Rattle.validation.proofs.PlaceLaws.{placed-parts}
 
 -- the order in which the tests are made
-reordered : (a z t y s d g e : Bool) → ((z && y) && (t && ((a && (s && d)) && (g && e)))) ≡ ((a && z) && ((t && y) && (s && (d && (g && e)))))
-reordered false false t y s d g e = refl
-reordered false true t false s d g e = refl
-reordered false true false true s d g e = refl
-reordered false true true true s d g e = refl
-reordered true false t y s d g e = refl
-reordered true true false false s d g e = refl
-reordered true true true false s d g e = refl
-reordered true true false true s d g e = refl
-reordered true true true true false d g e = refl
-reordered true true true true true false g e = refl
-reordered true true true true true true g e = refl
+reordered : (a z t y s d r : Bool) → ((z && y) && (t && ((a && (s && d)) && r))) ≡ ((t && y) && ((((a && z) && s) && d) && r))
+reordered a false false y s d r = refl
+reordered a false true false s d r = refl
+reordered false false true true s d r = refl
+reordered true false true true s d r = refl
+reordered a true false false s d r = refl
+reordered a true false true s d r = refl
+reordered false true true y s d r = refl
+reordered true true true y s d r = refl
 
 module _ (s : State) (frames : length (s .frames) ≡ 1024) (tracks : length (s .tracks) ≡ 4) where
   pub too-many-frames : 1024 < s .nframes → wellFormed s ≡ false
@@ -42,9 +39,8 @@ module _ (s : State) (frames : length (s .frames) ≡ 1024) (tracks : length (s 
   no-tracks m h = rw (first-length (s .tracks) (s .ntracks) (omega arith), lt-leb 1 (s .ntracks) h) (and-false (laidOut s))
 
   pub whole : s .nframes ≤ 1024 → s .ntracks ≤ 4 → 1 ≤ s .ntracks → s .last ≤ 4294967295
-      → (placed (goodFrame (s .ntracks) (s .last)) isZeroFrame (s .nframes) (s .frames)
-      && (placed goodTrack isZeroTrack (s .ntracks) (s .tracks)
-      && (sorted (take (s .nframes) (s .frames)) && (distinctNumbers (take (s .nframes) (s .frames)) && (goodGroup (s .group) && goodSettings (s .settings))))))
+      → (placed goodTrack isZeroTrack (s .ntracks) (s .tracks)
+      && ((framesPlaced s && distinctNumbers (take (s .nframes) (s .frames))) && (goodGroup (s .group) && goodSettings (s .settings))))
       ≡ wellFormed s
   unfolding wellFormed laidOut goodBuffer goodTracks goodFrames
   whole n m some last =
@@ -65,4 +61,4 @@ module _ (s : State) (frames : length (s .frames) ≡ 1024) (tracks : length (s 
       )
       (sym (reordered (allOf (goodFrame (s .ntracks) (s .last)) stored) (allOf isZeroFrame (drop (s .nframes) (s .frames)))
       (allOf goodTrack (take (s .ntracks) (s .tracks))) (allOf isZeroTrack (drop (s .ntracks) (s .tracks)))
-      (sorted stored) (distinctNumbers stored) (goodGroup (s .group)) (goodSettings (s .settings))))
+      (sorted stored) (distinctNumbers stored) (goodGroup (s .group) && goodSettings (s .settings))))

@@ -10,10 +10,11 @@ ghost use lib.ListN.{take};
 ghost use Rattle.seconds.specs.Seconds.{sameInt};
 ghost use Rattle.buffer_state.specs.Limits.{resultTime, goodDuration};
 ghost use Rattle.buffer_state.specs.Buffer.{endOf};
-ghost use Rattle.buffer_state.specs.WellFormed.{goodTrack, goodFrame, sorted, distinctNumbers, goodGroup, converts, goodOffset, goodStart, goodEnd, goodSettings};
+ghost use Rattle.buffer_state.specs.Store.{before};
+ghost use Rattle.buffer_state.specs.WellFormed.{goodTrack, goodFrame, distinctNumbers, goodGroup, converts, goodOffset, goodStart, goodEnd, goodSettings};
 ghost use Rattle.buffer_state.specs.Layout.{isZeroFrame, isZeroTrack, wellFormed};
 ghost use Rattle.sorting.specs.Sorting.{noNeighbours};
-ghost use Rattle.validation.specs.Places.{placed, numberOf};
+ghost use Rattle.validation.specs.Places.{placed, framesPlaced, numberOf};
 use buffer_state::Frame;
 use buffer_state::Group;
 use buffer_state::Setting;
@@ -196,17 +197,7 @@ fn good_settings(t: Settings) -> bool
     good_offset(o) & (good_start(w) & good_end(w.micros, e, t.limit))
 }
 
-// ---- the places of the arrays
-
-// A place of the frames: a good frame where it is in use, zeros past the count.
-fn frame_place(f: Frame, used: bool, tracks: usize, last: u32) -> bool
-    ensures { λ r. ⌜ r ≡ cond used (goodFrame tracks last f) (isZeroFrame f) ⌝ }
-{
-    if used {
-        return good_frame(f, tracks, last);
-    }
-    zero_frame(f)
-}
+// ---- the tracks
 
 fn track_place(t: Track, used: bool) -> bool
     ensures { λ r. ⌜ r ≡ cond used (goodTrack t) (isZeroTrack t) ⌝ }
@@ -215,23 +206,6 @@ fn track_place(t: Track, used: bool) -> bool
         return good_track(t);
     }
     zero_track(t)
-}
-
-fn frames_placed(s: State) -> bool
-    ensures { λ r. ⌜ r ≡ placed (goodFrame (s .ntracks) (s .last)) isZeroFrame (s .nframes) (s .frames) ⌝ }
-{
-    let n = s.nframes;
-    let tracks = s.ntracks;
-    let last = s.last;
-    let mut i: usize = 0;
-    while i < 1024 {
-        let f = s.frames[i];
-        if !frame_place(f, i < n, tracks, last) {
-            return false;
-        }
-        i += 1;
-    }
-    true
 }
 
 fn tracks_placed(s: State) -> bool
@@ -249,22 +223,16 @@ fn tracks_placed(s: State) -> bool
     true
 }
 
-// The stored frames are in store order.
-fn frames_sorted(s: State) -> bool
-    requires { ⌜ s .nframes ≤ 1024 ⌝ }
-    ensures { λ r. ⌜ r ≡ sorted (take (s .nframes) (s .frames)) ⌝ }
+// ---- the frames
+
+// A place of the frames: where it is in use a good frame that comes after the one before it, zeros past the count.
+fn frame_place(previous: Frame, f: Frame, used: bool, tracks: usize, last: u32) -> bool
+    ensures { λ r. ⌜ r ≡ cond used (before previous f && goodFrame tracks last f) (isZeroFrame f) ⌝ }
 {
-    let n = s.nframes;
-    let mut i: usize = 0;
-    while i + 1 < n {
-        let f = s.frames[i];
-        let g = s.frames[i + 1];
-        if !store::frame_before(f, g) {
-            return false;
-        }
-        i += 1;
+    if used {
+        return store::frame_before(previous, f) & good_frame(f, tracks, last);
     }
-    true
+    zero_frame(f)
 }
 
 fn number_of(f: Frame) -> u64
@@ -273,20 +241,40 @@ fn number_of(f: Frame) -> u64
     f.number as u64
 }
 
-// The stored frames' numbers, and zeros after them.
-fn numbers(s: State) -> [u64; 1024]
+// What one pass over the frames finds: whether each place is as it must be, and the numbers.
+struct Examined {
+    good: bool,
+    numbers: [u64; 1024],
+}
+
+// One pass, since each function that reads the frames by an index copies the state. A zero frame comes before every good one.
+fn examine(s: State) -> Examined
     requires { ⌜ s .nframes ≤ 1024 ⌝ }
-    ensures { λ r. ⌜ take (s .nframes) r ≡ map numberOf (take (s .nframes) (s .frames)) ⌝ }
+    ensures { λ r. ⌜ r .good ≡ framesPlaced s ⌝ }
+    ensures { λ r. ⌜ r .numbers ≡ map numberOf (s .frames) ⌝ }
 {
     let n = s.nframes;
-    let mut out = [0u64; 1024];
+    let tracks = s.ntracks;
+    let last = s.last;
+    let mut previous = Frame {
+        track: 0,
+        flagged: false,
+        duration: 0,
+        number: 0,
+        pts: 0,
+        dts: 0,
+    };
+    let mut good = true;
+    let mut numbers = [0u64; 1024];
     let mut i: usize = 0;
-    while i < n {
+    while i < 1024 {
         let f = s.frames[i];
-        out[i] = number_of(f);
+        good = good & frame_place(previous, f, i < n, tracks, last);
+        numbers[i] = number_of(f);
+        previous = f;
         i += 1;
     }
-    out
+    Examined { good, numbers }
 }
 
 // No number equals the next.
@@ -304,28 +292,19 @@ fn apart(a: [u64; 1024], n: usize) -> bool
     true
 }
 
-// No two stored frames have one number: sorted, no two neighbours are equal.
-fn numbers_distinct(s: State) -> bool
+// The frames in their places and in store order, no two with one number: sorted, no two neighbours are equal.
+fn good_frames(s: State) -> bool
     requires { ⌜ s .nframes ≤ 1024 ⌝ }
-    ensures { λ r. ⌜ r ≡ distinctNumbers (take (s .nframes) (s .frames)) ⌝ }
+    ensures { λ r. ⌜ r ≡ (framesPlaced s && distinctNumbers (take (s .nframes) (s .frames))) ⌝ }
 {
     let n = s.nframes;
-    let given = numbers(s);
+    let found = examine(s);
+    let given = found.numbers;
     let risen = sorting::sort(given, n);
-    apart(risen, n)
+    found.good & apart(risen, n)
 }
 
 // ---- the state
-
-// What the buffer in a state holds, its counts being inside the arrays.
-fn good_contents(s: State) -> bool
-    requires { ⌜ (s .nframes ≤ 1024) × (s .ntracks ≤ 4) ⌝ }
-    ensures { λ r. ⌜ r ≡ (sorted (take (s .nframes) (s .frames)) && (distinctNumbers (take (s .nframes) (s .frames)) && (goodGroup (s .group) && goodSettings (s .settings)))) ⌝ }
-{
-    let g = s.group;
-    let t = s.settings;
-    frames_sorted(s) & (numbers_distinct(s) & (good_group(g) & good_settings(t)))
-}
 
 pub fn well_formed(s: State) -> bool
     ensures { λ r. ⌜ r ≡ wellFormed s ⌝ }
@@ -339,5 +318,7 @@ pub fn well_formed(s: State) -> bool
     if s.ntracks < 1 {
         return false;
     }
-    frames_placed(s) & (tracks_placed(s) & good_contents(s))
+    let g = s.group;
+    let t = s.settings;
+    tracks_placed(s) & (good_frames(s) & (good_group(g) & good_settings(t)))
 }

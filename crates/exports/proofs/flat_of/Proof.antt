@@ -4,9 +4,8 @@ use mathlib.Core.List.{map}
 use Prim.Native.Nat.{_≤_, _<_, _-_}
 use native.Mathlib.Omega.{arith}
 use lib.ListN.{length, take}
-use Rattle.laws.proofs.ListLaws.{mapped-length, mapped-more}
+use Rattle.laws.proofs.ListLaws.{mapped-length, mapped-more, all-mapped}
 use Rattle.exports.specs.Flat.{frameOut}
-use Rattle.exports.proofs.LoopLaws.{all-mapped}
 use borrow.Author.Needs.{needs}
 use Rattle.exports.proofs.flat_of.Statement.{statement}
 use Rattle.exports.proofs.flat_of.Tie as tie

@@ -5,11 +5,11 @@ use mathlib.Core.List.{map}
 use Prim.Native.Nat.{_≤_, _<_, _-_}
 use native.Mathlib.Omega.{arith}
 use lib.ListN.{length, take}
-use Rattle.laws.proofs.ListLaws.{mapped-length, mapped-more}
+use Rattle.laws.proofs.ListLaws.{mapped-length, mapped-more, all-mapped}
 use Rattle.buffer_state.specs.WellFormed.{allOf}
 use Rattle.exports.specs.Flat.{frameIn, plainFrame}
 use Rattle.exports.proofs.CopyLaws.{and-true, tested-more}
-use Rattle.exports.proofs.LoopLaws.{all-mapped, all-tested}
+use Rattle.exports.proofs.LoopLaws.{all-tested}
 use borrow.Author.Needs.{needs}
 use Rattle.exports.proofs.state_in.Statement.{statement}
 use Rattle.exports.proofs.state_in.Tie as tie

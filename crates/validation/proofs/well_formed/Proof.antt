@@ -29,24 +29,30 @@ returns-3 c =
     let s = e .before .before .before .before in
     sym (no-tracks (s .args .s) (frames-full s) (tracks-full s) (e .if2 .left) (c .if3 .taken))
 
-frames-placed-requires : tie.Need-frames-placed-requires
-frames-placed-requires c κs = search needs
-
 tracks-placed-requires : tie.Need-tracks-placed-requires
 tracks-placed-requires c κs = search needs
 
-good-contents-requires : tie.Need-good-contents-requires
-good-contents-requires c κs = search needs
+good-frames-requires : tie.Need-good-frames-requires
+good-frames-requires c κs = search needs
+
+good-group-requires : tie.Need-good-group-requires
+good-group-requires c κs = search needs
+
+good-settings-requires : tie.Need-good-settings-requires
+good-settings-requires c κs = search needs
 
 returns-4 : tie.Need-returns-4
 returns-4 c =
-    let e₃ = c .before .before .before in
+    let group = c .before in
+    let frames = group .before in
+    let tracks = frames .before in
+    let e₃ = tracks .before .before .before in
     let e₂ = e₃ .before .before in
     let e₁ = e₂ .before .before in
     let s = e₁ .before .before in
     let word = s .good .0 .1 .1 .1 .1 .1 .1 .1 .1 .0 in
     let last : s .args .s .last ≤ 4294967295 = search needs in
-    rw (c .before .before .frames-placed .ensures, c .before .tracks-placed .ensures, c .good-contents .ensures)
+    rw (tracks .tracks-placed .ensures, frames .good-frames .ensures, group .good-group .ensures, c .good-settings .ensures)
     (whole (s .args .s) (frames-full s) (tracks-full s) (e₁ .if1 .left) (e₂ .if2 .left) (e₃ .if3 .left) last)
 
 pub well-formed-spec : {M : Type 1} → statement M
@@ -56,7 +62,8 @@ well-formed-spec =
     returns
     returns-2
     returns-3
-    frames-placed-requires
     tracks-placed-requires
-    good-contents-requires
+    good-frames-requires
+    good-group-requires
+    good-settings-requires
     returns-4)
