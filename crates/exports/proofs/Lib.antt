@@ -1,4 +1,4 @@
 pub mod CopyLaws
 pub mod LoopLaws
-pub mod CallLaws
 pub mod FlatLaws
+pub mod CallLaws

@@ -1,6 +1,8 @@
 -- What each exported call answers, from the call's own definition: after a refusal the flat state that was handed in, else the new
 -- state laid flat; the refusal number, 0 where there is none, and the count beside it.
+use mathlib.Core.Path.{_≡_}
 use mathlib.Core.Bool.{true}
+use mathlib.Core.List.{map}
 use Prim.Native.Nat.{ℕ}
 use lib.Ieee.{Float}
 use lib.ListN.{length}
@@ -21,7 +23,7 @@ use Rattle.exports.specs.declared.Flat.{Flat}
 use Rattle.exports.specs.declared.FlatOffered.{FlatOffered}
 use Rattle.exports.specs.declared.Reading.{Reading}
 use Rattle.exports.specs.declared.Report.{Report}
-use Rattle.exports.specs.Flat.{isFlag, flatOf, stateIn, offeredIn}
+use Rattle.exports.specs.Flat.{isFlag, frameOut, flatOf, stateIn, offeredIn}
 
 -- handed back as it came, with the refusal's number
 abbrev pub refusedFlat : Flat → ℕ → Flat
@@ -39,6 +41,11 @@ refusedFlat c why = record {
 }
 
 -- ---- abort and the setters
+
+-- a state's frames, laid flat, are those of a flat state
+pub record FramesKept (c : Flat) (s : State) : Type 0 where
+  pub frames : map frameOut (s .frames) ≡ c .frames
+  pub nframes : s .nframes ≡ c .nframes
 
 abbrev pub changedOut : Flat → Answer → State → Flat
 changedOut c Answer.Done s = flatOf 0 0 s

@@ -5,10 +5,11 @@ ghost use mathlib.Core.Path.{_≡_};
 ghost use mathlib.Core.Bool.{true, cond};
 ghost use mathlib.Core.List.{map};
 ghost use lib.ListN.{length};
+ghost use Rattle.buffer_state.specs.declared.Answer.the-variants.{Done};
 ghost use Rattle.buffer_state.specs.Answers.{listAfter, abortAnswer, modeAnswer, offsetAnswer, windowStartAnswer, windowEndAnswer, settingsAnswer, createAnswer, rangeCount, rangesAfter, trackRangesResult, commonRangesResult};
 ghost use Rattle.buffer_state.specs.Refusals.{refusalNumber};
 ghost use Rattle.buffer_state.specs.WellFormed.{allOf};
-ghost use Rattle.exports.specs.Calls.{refusedFlat, changedOut, handedBack, createdOut, countedOut, outcomeOut, appendFlat, removeFlat, reportOut, readingOut};
+ghost use Rattle.exports.specs.Calls.{FramesKept, refusedFlat, changedOut, handedBack, createdOut, countedOut, outcomeOut, appendFlat, removeFlat, reportOut, readingOut};
 ghost use Rattle.exports.specs.Flat.{isFlag, flagOut, modeIn, modeOut, endIn, boundedOut, endOut, frameIn, frameOut, trackIn, trackOut, groupIn, groupOut, settingIn, settingOut, settingsIn, settingsOut, offeredIn, plainTrack, plainEnd, plainHead, flatOf, stateIn};
 use buffer_state::Answer;
 use buffer_state::Count;
@@ -457,6 +458,30 @@ fn flat_of(s: State, refusal: u32, count: usize) -> Flat
     }
 }
 
+// A state with the frames of a flat state, laid flat: those frames, and all else anew.
+fn head_out(c: Flat, s: State) -> Flat
+    requires { ⌜ FramesKept c s ⌝ }
+    ensures { λ r. ⌜ r ≡ flatOf 0 0 s ⌝ }
+{
+    let ts = s.tracks;
+    let tracks = tracks_out(ts);
+    let m = s.mode;
+    let mode = mode_out(m);
+    let group = group_out(s.group);
+    let given = settings_out(s.settings);
+    Flat {
+        tracks,
+        ntracks: s.ntracks,
+        mode,
+        last: s.last,
+        group,
+        settings: given,
+        refusal: 0,
+        count: 0,
+        ..c
+    }
+}
+
 fn refused(c: Flat, why: Refusal) -> Flat
     ensures { λ r. ⌜ r ≡ refusedFlat c (refusalNumber why) ⌝ }
 {
@@ -470,11 +495,13 @@ fn refused(c: Flat, why: Refusal) -> Flat
 
 // ---- what a call answered, laid flat
 
+// Abort and the setters touch no frame, so the frames of the flat state that was handed in are handed back, without a pass over them.
 fn changed_out(c: Flat, answer: Answer, s: State) -> Flat
+    requires { ⌜ (answer ≡ Done → FramesKept c s) ⌝ }
     ensures { λ r. ⌜ r ≡ changedOut c answer s ⌝ }
 {
     match answer {
-        Answer::Done => flat_of(s, 0, 0),
+        Answer::Done => head_out(c, s),
         Answer::Refused(why) => refused(c, why),
     }
 }

@@ -10,8 +10,10 @@ use Rattle.exports.proofs.changed_out.Tie as tie
 enum-told : tie.Need-enum-told
 enum-told c = search needs
 
-flat-of-requires : tie.Need-flat-of-requires
-flat-of-requires c κs = search needs
+head-out-requires : tie.Need-head-out-requires
+head-out-requires c κs =
+    let e : c .before .before .args .answer ≡ Done = cc in
+    c .before .before .pre e
 
 enum-known-answer : tie.Need-enum-known-answer
 enum-known-answer c = search needs
@@ -23,7 +25,7 @@ returns : tie.Need-returns
 returns c =
     let a = c .before .before .before .args in
     let e : Done ≡ a .answer = cc in
-    c .flat-of .ensures ∙ ap (λ (t : Answer). changedOut (a .c) t (a .s)) e
+    c .head-out .ensures ∙ ap (λ (t : Answer). changedOut (a .c) t (a .s)) e
 
 returns-2 : tie.Need-returns-2
 returns-2 c =
@@ -35,4 +37,4 @@ returns-2 c =
 pub changed-out-spec : {M : Type 1} → statement M
 changed-out-spec =
     tie.close
-    (tie.spec enum-told flat-of-requires enum-known-answer refused-requires returns returns-2)
+    (tie.spec enum-told head-out-requires enum-known-answer refused-requires returns returns-2)

@@ -1,6 +1,11 @@
--- The answer on the state that was read.
+-- The answer on the state that was read; it touches no frame.
+use mathlib.Core.Bool.{true}
 use Rattle.buffer_state.specs.Answers.{abortAnswer}
-use Rattle.exports.proofs.CallLaws.{handed}
+use Rattle.buffer_state.specs.Buffer.{Buffer}
+use Rattle.buffer_state.specs.Refusals.{done}
+use Rattle.buffer_state.specs.Settings.{aborted}
+use Rattle.buffer_laws.proofs.SettingLaws.{aborted-good, aborted-untouched}
+use Rattle.exports.proofs.CallLaws.{handed, frames-kept}
 use borrow.Author.Needs.{needs}
 use Rattle.exports.proofs.galumper_abort.Statement.{statement}
 use Rattle.exports.proofs.galumper_abort.Tie as tie
@@ -12,7 +17,12 @@ abort-requires : tie.Need-abort-requires
 abort-requires c κs = search needs
 
 changed-out-requires : tie.Need-changed-out-requires
-changed-out-requires c κs = search needs
+unfolding abortAnswer
+changed-out-requires c κs =
+    let r = c .before in
+    let s = r .before in
+    frames-kept true (s .before .args .c) (λ (b : Buffer). done (aborted b)) (λ b. record { good = aborted-good b; untouched = aborted-untouched b })
+    (s .state-in .result) (r .abort .result) (s .state-in .ensures) (r .abort .ensures)
 
 returns : tie.Need-returns
 returns c =

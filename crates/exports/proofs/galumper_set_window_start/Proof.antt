@@ -1,6 +1,9 @@
--- The answer on the state that was read.
+-- The answer on the state that was read; it touches no frame.
+use mathlib.Core.Bool.{true}
 use Rattle.buffer_state.specs.Answers.{windowStartAnswer}
-use Rattle.exports.proofs.CallLaws.{handed}
+use Rattle.buffer_state.specs.Settings.{windowStartSet}
+use Rattle.buffer_laws.proofs.SettingLaws.{window-start-set}
+use Rattle.exports.proofs.CallLaws.{handed, frames-kept}
 use borrow.Author.Needs.{needs}
 use Rattle.exports.proofs.galumper_set_window_start.Statement.{statement}
 use Rattle.exports.proofs.galumper_set_window_start.Tie as tie
@@ -12,7 +15,12 @@ set-window-start-requires : tie.Need-set-window-start-requires
 set-window-start-requires c κs = search needs
 
 changed-out-requires : tie.Need-changed-out-requires
-changed-out-requires c κs = search needs
+unfolding windowStartAnswer
+changed-out-requires c κs =
+    let r = c .before in
+    let s = r .before in
+    frames-kept true (s .before .args .c) (windowStartSet (s .before .args .seconds)) (window-start-set (s .before .args .seconds))
+    (s .state-in .result) (r .set-window-start .result) (s .state-in .ensures) (r .set-window-start .ensures)
 
 returns : tie.Need-returns
 returns c =
