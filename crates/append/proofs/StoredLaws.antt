@@ -13,11 +13,9 @@ use Rattle.buffer_state.specs.Append.{Pass, needing, overlapped, overlapMarks, 
 use Rattle.buffer_state.specs.Buffer.{Buffer, trackOf}
 use Rattle.buffer_state.specs.Layout.{wellFormed}
 use Rattle.buffer_state.specs.Limits.{places}
-use Rattle.buffer_state.specs.Store.{Marked, before, markWhere, walk, kept}
-use Rattle.buffer_state.specs.WellFormed.{sorted}
+use Rattle.buffer_state.specs.Store.{Marked, markWhere, walk, kept}
 use Rattle.buffer_laws.proofs.LayoutLaws.{state-back}
 use Rattle.buffer_laws.proofs.OrderLaws.{insert-length}
-use Rattle.buffer_laws.proofs.StoreLaws.{left-pairs}
 use Rattle.store.specs.Marks as Marks
 use Rattle.store.specs.Marks.{holding, mark, markedBy, causesOf}
 use Rattle.store.proofs.MarksLaws.{good-store, walk-again}
@@ -98,10 +96,6 @@ module _ (s : State) (w : wellFormed s ≡ true) (q : Pass) (e : q .buffer .fram
   overlap-walked t marks causes d m c =
       walked s w (overlapped t (q .frame)) 4 marks causes m c
       ∙ (λ j. walk (markWhere (overlapped (d j) (q .frame)) 4 (sym e j)))
-
-  pub left-sorted : sorted (kept (overlapMarks q)) ≡ true
-  unfolding overlapMarks sorted
-  left-sorted = left-pairs (overlapped (trackOf (q .buffer) (q .frame .track)) (q .frame)) 4 (q .buffer .frames) before (rw e (good-store s w .order))
 
 pub stored-count : (q : Pass) → length (stored q .after .frames) ≡ suc (length (kept (overlapMarks q)))
 unfolding stored stepNine

@@ -14,10 +14,9 @@ ghost use Rattle.buffer_state.specs.Answers.{counted, listAfter, appendResult};
 ghost use Rattle.buffer_state.specs.Append.{withOffset, stepOne, stepTwo, endOffered, fits, passOf, regrouped, breaks, above, dropped, between, overlapped, overlapMarks, raised, storedAs, followed, stepNine, offerable};
 ghost use Rattle.buffer_state.specs.Buffer.{Buffer, isSequence, trackOf, withTrack, withNeed, withEnd};
 ghost use Rattle.buffer_state.specs.Limits.{offeredTime, resultTime, lastNumber};
-ghost use Rattle.buffer_state.specs.Layout.{stateOf};
-ghost use Rattle.buffer_state.specs.Store.{kept};
-ghost use Rattle.buffer_state.specs.WellFormed.{goodTrack};
-ghost use Rattle.store.specs.Marks.{stored, markedBy};
+ghost use Rattle.buffer_state.specs.Store.{kept, insertSorted};
+ghost use Rattle.buffer_state.specs.WellFormed.{goodTrack, sorted};
+ghost use Rattle.store.specs.Marks.{stored, ZerosPast, markedBy, leaving, linesThen};
 ghost use Rattle.append.specs.Heads.{headOf, headIn, underHead, GoodHead, HasTrack, passedAs, deciding, dropCause, settledResult, passAt, dropBuffer, nextHead, groupHead, Ready};
 use buffer_state::Count;
 use buffer_state::Counted;
@@ -542,16 +541,27 @@ fn taken(s: State, h: Head, g: Offered) -> [u8; 1024]
     walked
 }
 
-// Step 9, with the frames that have no cause.
-fn after_storing(s: State, h: Head, g: Offered, causes: [u8; 1024]) -> State
-    requires { ⌜ Ready s h g × (markedBy (stored s) causes ≡ overlapMarks (passAt s h g)) × (length (kept (overlapMarks (passAt s h g))) < 1024) ⌝ }
-    ensures { λ r. ⌜ r ≡ stateOf (Append.stored (passAt s h g) .after) ⌝ }
+// The frame takes its place among the stored frames that have no cause, `left` of them. Where none has one, the insertion is all.
+fn put_in(s: State, f: Frame, causes: [u8; 1024], left: usize, fates: &mut [[u32; 2]]) -> Counted
+    requires { ⌜ (s .nframes ≤ 1024) × ZerosPast s × (sorted (stored s) ≡ true) × (1024 ≤ length (now fates)) ⌝ }
+    requires { ⌜ (left ≡ length (kept (markedBy (stored s) causes))) × (left < 1024) ⌝ }
+    ensures { λ r. ⌜ r ≡ leaving s (insertSorted f (kept (markedBy (stored s) causes))) (markedBy (stored s) causes) ⌝ }
+    ensures { λ r. ⌜ now (fates .exit) ≡ linesThen (markedBy (stored s) causes) (now (fates .entry)) ⌝ }
 {
-    let left = store::compact(s, causes);
-    let nine = step_nine(h, g);
-    let f = stored_as(nine.last, g);
-    let more = store::insert(left, f);
-    with_head(more, nine)
+    if left == s.nframes {
+        let more = store::insert(s, f);
+        return Counted {
+            answer: Count::Done(0),
+            state: more,
+        };
+    }
+    let n = store::write_lines(s, causes, fates);
+    let rest = store::compact(s, causes);
+    let after = store::insert(rest, f);
+    Counted {
+        answer: Count::Done(n),
+        state: after,
+    }
 }
 
 // The frame is stored, unless the store would be left too full: places that steps 7 and 8 free count.
@@ -562,16 +572,14 @@ fn store_frame(s: State, h: Head, g: Offered, fates: &mut [[u32; 2]]) -> Counted
 {
     let k = need_track(h, g.track, false);
     let causes = taken(s, k, g);
-    let kept = store::count_kept(s, causes);
-    if PLACES <= kept {
+    let left = store::count_kept(s, causes);
+    if PLACES <= left {
         return store::refuse(s, Refusal::Full);
     }
-    let after = after_storing(s, k, g, causes);
-    let n = store::write_lines(s, causes, fates);
-    Counted {
-        answer: Count::Done(n),
-        state: after,
-    }
+    let nine = step_nine(k, g);
+    let f = stored_as(nine.last, g);
+    let t = with_head(s, nine);
+    put_in(t, f, causes, left, fates)
 }
 
 // ---- the call

@@ -12,6 +12,7 @@ use Rattle.buffer_state.specs.declared.Frame.{Frame}
 use Rattle.buffer_state.specs.Store.{Marked, isTaken, kept, Line, linesOf}
 use Rattle.buffer_state.specs.Layout.{padded}
 use Rattle.buffer_state.specs.Answers.{written}
+use Rattle.buffer_laws.proofs.StoreLaws.{framesOf, kept-length}
 use Rattle.store.specs.Marks.{mark, markedBy}
 use Rattle.laws.proofs.ListLaws.{first-length}
 use mathlib.Core.List.{map-append}
@@ -45,6 +46,19 @@ lines-append (m ∷ ms) ns = go (isTaken m) (lines-append ms ns)
     go : (t : Bool) → linesOf (ms ++ ns) ≡ linesOf ms ++ linesOf ns → cond t (line ∷ linesOf (ms ++ ns)) (linesOf (ms ++ ns)) ≡ cond t (line ∷ linesOf ms) (linesOf ms) ++ linesOf ns
     go true e = ap (λ (l : List Line). line ∷ l) e
     go false e = e
+
+-- where as many are kept as there are frames, all are kept and none is told
+pub all-kept : (ms : List Marked) → length (kept ms) ≡ length (framesOf ms) → (kept ms ≡ framesOf ms) × (linesOf ms ≡ [])
+unfolding kept linesOf
+all-kept [] e = (refl, refl)
+all-kept (m ∷ ms) e = go (isTaken m) (λ d. all-kept ms d) e
+  where
+    go : (t : Bool) → (length (kept ms) ≡ length (framesOf ms) → (kept ms ≡ framesOf ms) × (linesOf ms ≡ []))
+        → length (cond t (kept ms) (m .frame ∷ kept ms)) ≡ suc (length (framesOf ms))
+        → (cond t (kept ms) (m .frame ∷ kept ms) ≡ m .frame ∷ framesOf ms)
+        × (cond t (record { number = m .frame .number; cause = m .cause } ∷ linesOf ms) (linesOf ms) ≡ [])
+    go true rest e = absurd (omega (arith, kept-length ms))
+    go false rest e = let r = rest (omega arith) in (ap (λ (l : List Frame). m .frame ∷ l) (r .0), r .1)
 
 module _ (fs : List Frame) (cs : List ℕ) (i : ℕ) (z : Frame) (h : i < length fs) where
   pub kept-more : getD cs i 0 ≡ 0 → kept (take (i + 1) (markedBy fs cs)) ≡ kept (take i (markedBy fs cs)) ++ (getD fs i z ∷ [])

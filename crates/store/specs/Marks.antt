@@ -1,14 +1,17 @@
 -- The stored frames of a State as a list, and causes in step with them: what the calls that take frames out work on.
 use mathlib.Core.Bool.{Bool, cond, not, _&&_}
-use mathlib.Core.List.{List, [], _∷_, map}
+use mathlib.Core.List.{List, [], _∷_, _++_, map}
 use mathlib.Core.Path.{_≡_}
 use Prim.Native.Nat.{ℕ}
 use lib.Dec.{eqb}
-use lib.ListN.{length, take}
+use lib.ListN.{length, take, drop}
+use Rattle.buffer_state.specs.declared.Count.the-variants as Count
+use Rattle.buffer_state.specs.declared.Counted.{Counted}
 use Rattle.buffer_state.specs.declared.Frame.{Frame}
 use Rattle.buffer_state.specs.declared.State.{State}
 use Rattle.buffer_state.specs.Limits.{places}
-use Rattle.buffer_state.specs.Store.{Marked}
+use Rattle.buffer_state.specs.Store.{Marked, linesOf}
+use Rattle.buffer_state.specs.Answers.{written}
 use Rattle.buffer_state.specs.Layout.{zeroFrame, padded}
 
 -- the frames up to the count
@@ -53,3 +56,13 @@ causesOf = map (λ (m : Marked). m .cause)
 -- the cause of a frame after step 8's walk, which reaches it or not: 5 where it is not taken, not flagged, and reached
 abbrev pub causeAfter : Bool → Frame → ℕ → ℕ
 causeAfter reached f c = cond (not (not (eqb c 0)) && (not (f .flagged) && reached)) 5 c
+
+-- ---- what a call that takes frames out hands back
+
+-- the count of its lines, and the state with these frames
+abbrev pub leaving : State → List Frame → List Marked → Counted
+leaving s l ms = record { answer = Count.Done (length (linesOf ms)); state = holding s l }
+
+-- the lines, then what the list held before
+abbrev pub linesThen : List Marked → List (List ℕ) → List (List ℕ)
+linesThen ms before = written (linesOf ms) ++ drop (length (linesOf ms)) before

@@ -1,23 +1,24 @@
 -- Refusal 8 by the count of frames left, which are those of the definition; else each call as it is told.
-use mathlib.Core.Path.{_≡_, refl, ap, _∙_}
-use mathlib.Core.Bool.{false}
-use mathlib.Core.List.{List, _++_}
+use mathlib.Core.Path.{_≡_, refl, sym, ap, subst, _∙_}
+use mathlib.Core.Bool.{true, false}
+use mathlib.Core.List.{List}
 use Prim.Native.Nat.{_≤_, _<_}
 use native.Mathlib.Omega.{arith}
 use borrow.Author.Needs.{needs}
-use lib.ListN.{length, drop}
-use Rattle.buffer_state.specs.declared.Count.the-variants as Count
+use lib.ListN.{length}
+use Rattle.buffer_state.specs.declared.Frame.{Frame}
 use Rattle.buffer_state.specs.declared.Refusal.the-variants.{Full}
-use Rattle.buffer_state.specs.Answers.{written}
+use Rattle.buffer_state.specs.declared.State.{State}
 use Rattle.buffer_state.specs.Append as Append
-use Rattle.buffer_state.specs.Append.{Pass, needing, overlapMarks}
-use Rattle.buffer_state.specs.Layout.{stateOf}
+use Rattle.buffer_state.specs.Append.{Pass, needing, overlapMarks, stepNine, storedAs}
 use Rattle.buffer_state.specs.Refusals.{refused, done}
-use Rattle.buffer_state.specs.Store.{Marked, kept, linesOf}
+use Rattle.buffer_state.specs.Store.{Marked, insertSorted, kept}
+use Rattle.buffer_state.specs.WellFormed.{sorted}
 use Rattle.buffer_laws.proofs.AnswerLaws.{answered}
-use Rattle.store.specs.Marks.{stored, markedBy}
+use Rattle.store.specs.Marks.{stored, ZerosPast, markedBy, leaving, linesThen}
 use Rattle.store.proofs.MarksLaws.{good-store}
-use Rattle.append.specs.Heads.{headOf, passAt, Ready}
+use Rattle.append.specs.declared.Head.{Head}
+use Rattle.append.specs.Heads.{headOf, underHead, passAt, Ready}
 use Rattle.append.proofs.SettleLaws.{store-full, store-result}
 use Rattle.append.proofs.StoredLaws.{needing-pass, needing-ready, stored-count}
 use Rattle.append.proofs.store_frame.Statement.{statement}
@@ -65,39 +66,55 @@ returns c =
     let full = store-full (passAt (a .s) (a .h) (a .g)) (s .pre .1) (omega (arith, stored-count (storing s), left n, i .if1 .taken)) in
     answered (a .s) (a .fates .now) (refused Full) full (c .refuse .ensures) refl
 
-after-storing-requires : tie.Need-after-storing-requires
-after-storing-requires c κs =
-    let n = c .before in
-    let t = n .before in
-    let few : length (kept (markedBy (stored (t .before .before .args .s)) (t .taken .result))) < 1024 = omega (arith, n .count-kept .ensures, c .if1 .left) in
-    (ready (t .before), t .taken .ensures, rw (t .taken .ensures) at few)
+step-nine-requires : tie.Need-step-nine-requires
+step-nine-requires c κs = let r = ready (c .before .before .before) in (r .track, r .pts, r .number)
 
-write-lines-requires : tie.Need-write-lines-requires
-write-lines-requires c κs = let s = c .before .before .before .before .before .before in (good-store _ (s .pre .0 .whole) .few, s .pre .2)
+stored-as-requires : tie.Need-stored-as-requires
+stored-as-requires c κs = search needs
+
+with-head-requires : tie.Need-with-head-requires
+with-head-requires c κs = search needs
+
+put-in-requires : tie.Need-put-in-requires
+put-in-requires c κs =
+    let t = c .before in
+    let i = t .before .before .before in
+    let n = i .before in
+    let s = n .before .before .before in
+    let good = good-store _ (s .pre .0 .whole) in
+    subst
+    (λ (x : State).
+    ((x .nframes ≤ 1024) × ZerosPast x × (sorted (stored x) ≡ true) × (1024 ≤ length (s .args .fates .now)))
+    × ((n .count-kept .result ≡ length (kept (markedBy (stored x) (n .before .taken .result)))) × (n .count-kept .result < 1024)))
+    (sym (t .with-head .ensures))
+    ((good .few, good .zeros, good .order, s .pre .2), (n .count-kept .ensures, omega (arith, i .if1 .left)))
 
 same-length : tie.Need-same-length
 same-length c = search needs
 
 returns-2 : tie.Need-returns-2
-unfolding Append.stored
+unfolding Append.stored stepNine
 returns-2 c =
-    let w = c .before in
-    let o = w .before .before in
-    let i = o .before in
+    let p = c .before in
+    let t = p .before .before in
+    let f = t .before in
+    let x = f .before in
+    let i = x .before in
     let n = i .before in
-    let t = n .before in
-    let k = t .before in
+    let m = n .before in
+    let k = m .before in
     let s = k .before in
     let a = s .args in
     let q : Pass = storing s in
+    let ls : List Frame = kept (overlapMarks q) in
     let room : length (Append.stored q .after .frames) ≤ 1024 = omega (arith, stored-count q, left n, i .if1 .left) in
     let res = store-result (passAt (a .s) (a .h) (a .g)) (s .pre .1) room in
-    let lines = ap linesOf (marked t) in
-    let count = w .write-lines .ensures .1 ∙ ap length lines in
-    let state = o .after-storing .ensures ∙ ap (λ (p : Pass). stateOf (Append.stored p .after)) (needing-pass (a .s) (a .h) (a .g) (s .pre .0) (k .need-track .result) (headed k)) in
-    answered (a .s) (a .fates .now) (done (Append.stored q)) res
-    (λ j. record { answer = Count.Done (count j); state = state j })
-    (w .write-lines .ensures .0 ∙ (λ j. written (lines j) ++ drop (count j) (a .fates .now)))
+    let nine = x .step-nine .ensures (q .buffer) ls (headed k) in
+    let new = f .stored-as .ensures ∙ ap (λ (h : Head). storedAs (h .last) (a .g)) nine in
+    let under = t .with-head .ensures ∙ ap (underHead (a .s)) nine in
+    let marks = (λ j. markedBy (stored (under j)) (m .taken .result)) ∙ marked m in
+    let put = p .put-in .ensures .0 ∙ (λ j. leaving (under j) (insertSorted (new j) (kept (marks j))) (marks j)) in
+    answered (a .s) (a .fates .now) (done (Append.stored q)) res put (p .put-in .ensures .1 ∙ ap (λ (ms : List Marked). linesThen ms (a .fates .now)) marks)
 
 pub store-frame-spec : {M : Type 1} → statement M
 store-frame-spec =
@@ -108,7 +125,9 @@ store-frame-spec =
     count-kept-requires
     refuse-requires
     returns
-    after-storing-requires
-    write-lines-requires
+    step-nine-requires
+    stored-as-requires
+    with-head-requires
+    put-in-requires
     same-length
     returns-2)
