@@ -1,38 +1,25 @@
--- The store of a well-formed state through steps 7 to 9: marks, the walk, what is left, and the state that holds it.
-use mathlib.Core.Path.{_≡_, refl, sym, ap, _∙_}
-use mathlib.Core.Bool.{Bool, true, false, cond}
-use mathlib.Core.List.{List, [], _∷_, _++_, map}
-use Prim.Native.Nat.{ℕ, suc, _-_, _≤_}
+-- The store of a well-formed state, the pass that stores a frame in it, and how many frames that leaves.
+use mathlib.Core.Path.{_≡_, sym, ap, _∙_}
+use mathlib.Core.Bool.{true, false}
+use mathlib.Core.List.{[]}
+use Prim.Native.Nat.{suc, _-_, _≤_}
 use native.Mathlib.Omega.{arith}
-use lib.ListN.{length, take, drop, length-set}
-use Rattle.buffer_state.specs.declared.Frame.{Frame}
+use lib.ListN.{length, take, length-set}
 use Rattle.buffer_state.specs.declared.Offered.{Offered}
 use Rattle.buffer_state.specs.declared.State.{State}
-use Rattle.buffer_state.specs.declared.Track.{Track}
-use Rattle.buffer_state.specs.Append.{Pass, needing, overlapped, overlapMarks, stepNine, storedAs, nextNumber, stored}
-use Rattle.buffer_state.specs.Buffer.{Buffer, trackOf}
+use Rattle.buffer_state.specs.Append.{Pass, needing, overlapMarks, stepNine, storedAs, nextNumber, stored}
+use Rattle.buffer_state.specs.Buffer.{Buffer}
 use Rattle.buffer_state.specs.Layout.{wellFormed}
 use Rattle.buffer_state.specs.Limits.{places}
-use Rattle.buffer_state.specs.Store.{Marked, markWhere, walk, kept}
+use Rattle.buffer_state.specs.Store.{kept}
 use Rattle.buffer_laws.proofs.LayoutLaws.{state-back}
 use Rattle.buffer_laws.proofs.OrderLaws.{insert-length}
 use Rattle.store.specs.Marks as Marks
-use Rattle.store.specs.Marks.{holding, mark, markedBy, causesOf}
-use Rattle.store.proofs.MarksLaws.{good-store, walk-again}
+use Rattle.store.specs.Marks.{holding}
+use Rattle.store.proofs.MarksLaws.{good-store}
 use Rattle.append.specs.declared.Head.{Head}
 use Rattle.append.specs.Heads.{headOf, HasTrack, passAt, Ready}
 use Rattle.append.proofs.HeadLaws.{head-back}
-
--- ---- marks
-
-marked-first : (fs : List Frame) (cs : List ℕ) → markedBy fs cs ≡ markedBy fs (take (length fs) cs)
-marked-first [] cs = refl
-marked-first (f ∷ fs) [] = refl
-marked-first (f ∷ fs) (c ∷ cs) = ap (λ (ms : List Marked). mark f c ∷ ms) (marked-first fs cs)
-
-marked-map : (g : Frame → ℕ) (fs : List Frame) → markedBy fs (map g fs) ≡ map (λ (f : Frame). mark f (g f)) fs
-marked-map g [] = refl
-marked-map g (f ∷ fs) = ap (λ (ms : List Marked). mark f (g f) ∷ ms) (marked-map g fs)
 
 -- ---- the store of a well-formed state
 
@@ -57,15 +44,6 @@ module _ (s : State) (w : wellFormed s ≡ true) where
         settings = s .settings;
       }
 
-  -- causes written where a test passes, then walked
-  walked : (p : Frame → Bool) (c : ℕ) (marks causes : List ℕ) → take (s .nframes) marks ≡ map (λ (f : Frame). cond (p f) c 0) (Marks.stored s)
-      → causes ≡ causesOf (walk (markedBy (Marks.stored s) marks)) ++ drop (s .nframes) marks → markedBy (Marks.stored s) causes ≡ walk (markWhere p c (Marks.stored s))
-  walked p c marks causes d e =
-      let fs = Marks.stored s in
-      ap (markedBy fs) e
-      ∙ walk-again fs marks (drop (s .nframes) marks)
-      ∙ ap walk (marked-first fs marks ∙ ap (λ (n : ℕ). markedBy fs (take n marks)) stored-length ∙ ap (markedBy fs) d ∙ marked-map (λ (f : Frame). cond (p f) c 0) fs)
-
 -- ---- need-random-access turned off for the frame's track
 
 module _ (s : State) (h : Head) (g : Offered) (r : Ready s h g) (k : Head) (e : k ≡ headOf (needing false (passAt s h g))) where
@@ -87,15 +65,6 @@ module _ (s : State) (h : Head) (g : Offered) (r : Ready s h g) (k : Head) (e : 
       })
 
 -- ---- the pass that stores
-
-module _ (s : State) (w : wellFormed s ≡ true) (q : Pass) (e : q .buffer .frames ≡ Marks.stored s) where
-  pub overlap-walked : (t : Track) (marks causes : List ℕ) → t ≡ trackOf (q .buffer) (q .frame .track)
-      → take (s .nframes) marks ≡ map (λ (g : Frame). cond (overlapped t (q .frame) g) 4 0) (Marks.stored s)
-      → causes ≡ causesOf (walk (markedBy (Marks.stored s) marks)) ++ drop (s .nframes) marks → markedBy (Marks.stored s) causes ≡ overlapMarks q
-  unfolding overlapMarks
-  overlap-walked t marks causes d m c =
-      walked s w (overlapped t (q .frame)) 4 marks causes m c
-      ∙ (λ j. walk (markWhere (overlapped (d j) (q .frame)) 4 (sym e j)))
 
 pub stored-count : (q : Pass) → length (stored q .after .frames) ≡ suc (length (kept (overlapMarks q)))
 unfolding stored stepNine

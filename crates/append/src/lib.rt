@@ -2,19 +2,18 @@
 // and nothing is written before refusal 8 is decided. A promise on a head is made of every buffer b that has it: h ≡ headOf b.
 ghost use mathlib.Core.Path.{_≡_};
 ghost use mathlib.Core.Bool.{true, _&&_, _||_, cond};
-ghost use mathlib.Core.List.{List, map};
+ghost use mathlib.Core.List.{List};
 ghost use Prim.Native.Nat.{_+_, _*_, _^_, _≤_, _<_};
 ghost use lib.IntN.{pos, _+ℤ_, _-ℤ_, natAbs};
-ghost use lib.ListN.{length, take};
+ghost use lib.ListN.{length};
 ghost use lib.Dec.{leb};
 ghost use lib.Signed.{ltZ, mag};
 ghost use Rattle.buffer_state.specs.declared.Frame.{Frame};
-ghost use Rattle.buffer_state.specs.Append as Append;
 ghost use Rattle.buffer_state.specs.Answers.{counted, listAfter, appendResult};
 ghost use Rattle.buffer_state.specs.Append.{withOffset, stepOne, stepTwo, endOffered, fits, passOf, regrouped, breaks, above, dropped, between, overlapped, overlapMarks, raised, storedAs, followed, stepNine, offerable};
 ghost use Rattle.buffer_state.specs.Buffer.{Buffer, isSequence, trackOf, withTrack, withNeed, withEnd};
 ghost use Rattle.buffer_state.specs.Limits.{offeredTime, resultTime, lastNumber};
-ghost use Rattle.buffer_state.specs.Store.{kept, insertSorted};
+ghost use Rattle.buffer_state.specs.Store.{markWhere, walk, kept, insertSorted};
 ghost use Rattle.buffer_state.specs.WellFormed.{goodTrack, sorted};
 ghost use Rattle.store.specs.Marks.{stored, ZerosPast, markedBy, leaving, linesThen};
 ghost use Rattle.append.specs.Heads.{headOf, headIn, underHead, GoodHead, HasTrack, passedAs, deciding, dropCause, settledResult, passAt, dropBuffer, nextHead, groupHead, Ready};
@@ -445,20 +444,42 @@ fn overlap_cause(t: Track, f: Offered, g: Frame) -> u8
     0
 }
 
-// The causes of the stored frames: 4 where the new one overlaps them.
-fn overlap_marks(s: State, t: Track, f: Offered) -> [u8; 1024]
-    requires { ⌜ (s .nframes ≤ 1024) × (resultTime (f .pts) ≡ true) ⌝ }
-    ensures { λ r. ⌜ take (s .nframes) r ≡ map (λ g. cond (overlapped t f g) 4 0) (stored s) ⌝ }
+// The causes by which stored frames go, and how many frames have none.
+struct Causes {
+    of: [u8; 1024],
+    left: usize,
+}
+
+// Steps 7 and 8 in one pass: a frame's cause is 4 where the new one overlaps it, and the walk goes on from the frame before.
+fn overlap_causes(s: State, t: Track, f: Offered) -> Causes
+    requires { ⌜ (s .nframes ≤ 1024) × (sorted (stored s) ≡ true) × (resultTime (f .pts) ≡ true) ⌝ }
+    ensures { λ r. ⌜ markedBy (stored s) (r .of) ≡ walk (markWhere (overlapped t f) 4 (stored s)) ⌝ }
+    ensures { λ r. ⌜ r .left ≡ length (kept (markedBy (stored s) (r .of))) ⌝ }
 {
     let n = s.nframes;
-    let mut marks = [0u8; 1024];
+    let mut causes = [0u8; 1024];
+    let mut track: u8 = 0;
+    let mut follows = false;
+    let mut left: usize = 0;
     let mut i: usize = 0;
     while i < n {
         let g = s.frames[i];
-        marks[i] = overlap_cause(t, f, g);
-        i += 1;
+        let mark = overlap_cause(t, f, g);
+        let cause = store::walked(g, mark, track, follows);
+        causes[i] = cause;
+        track = g.track;
+        follows = cause != 0;
+        if cause != 0 {
+            i += 1;
+        } else {
+            left += 1;
+            i += 1;
+        }
     }
-    marks
+    Causes {
+        of: causes,
+        left: left,
+    }
 }
 
 // ---- step 9
@@ -530,36 +551,37 @@ fn step_nine(h: Head, f: Offered) -> Head
     with_track(m, n, t)
 }
 
-// Steps 7 and 8: the causes by which stored frames go.
-fn taken(s: State, h: Head, g: Offered) -> [u8; 1024]
+// Steps 7 and 8 for the frame's own track.
+fn taken(s: State, h: Head, g: Offered) -> Causes
     requires { ⌜ Ready s h g ⌝ }
-    ensures { λ r. ⌜ markedBy (stored s) r ≡ overlapMarks (passAt s h g) ⌝ }
+    ensures { λ r. ⌜ markedBy (stored s) (r .of) ≡ overlapMarks (passAt s h g) ⌝ }
+    ensures { λ r. ⌜ r .left ≡ length (kept (markedBy (stored s) (r .of))) ⌝ }
 {
     let t = track_of(h, g.track);
-    let marks = overlap_marks(s, t, g);
-    let walked = store::walk(s, marks);
-    walked
+    overlap_causes(s, t, g)
 }
 
-// The frame takes its place among the stored frames that have no cause, `left` of them. Where none has one, the insertion is all.
-fn put_in(s: State, f: Frame, causes: [u8; 1024], left: usize, fates: &mut [[u32; 2]]) -> Counted
+// The frame takes its place among the stored frames that have no cause. Where none has one, the insertion is all.
+fn put_in(s: State, f: Frame, c: Causes, fates: &mut [[u32; 2]]) -> Counted
     requires { ⌜ (s .nframes ≤ 1024) × ZerosPast s × (sorted (stored s) ≡ true) × (1024 ≤ length (now fates)) ⌝ }
-    requires { ⌜ (left ≡ length (kept (markedBy (stored s) causes))) × (left < 1024) ⌝ }
-    ensures { λ r. ⌜ r ≡ leaving s (insertSorted f (kept (markedBy (stored s) causes))) (markedBy (stored s) causes) ⌝ }
-    ensures { λ r. ⌜ now (fates .exit) ≡ linesThen (markedBy (stored s) causes) (now (fates .entry)) ⌝ }
+    requires { ⌜ (c .left ≡ length (kept (markedBy (stored s) (c .of)))) × (c .left < 1024) ⌝ }
+    ensures { λ r. ⌜ r ≡ leaving s (insertSorted f (kept (markedBy (stored s) (c .of)))) (markedBy (stored s) (c .of)) ⌝ }
+    ensures { λ r. ⌜ now (fates .exit) ≡ linesThen (markedBy (stored s) (c .of)) (now (fates .entry)) ⌝ }
 {
-    if left == s.nframes {
+    if c.left == s.nframes {
         let more = store::insert(s, f);
         return Counted {
             answer: Count::Done(0),
             state: more,
         };
     }
-    let n = store::write_lines(s, causes, fates);
-    let rest = store::compact(s, causes);
+    let causes = c.of;
+    let out = store::take_marked(s, causes, fates);
+    let answer = out.answer;
+    let rest = out.state;
     let after = store::insert(rest, f);
     Counted {
-        answer: Count::Done(n),
+        answer: answer,
         state: after,
     }
 }
@@ -571,15 +593,14 @@ fn store_frame(s: State, h: Head, g: Offered, fates: &mut [[u32; 2]]) -> Counted
     ensures { λ r. ⌜ now (fates .exit) ≡ listAfter (settledResult (passAt s h g)) (now (fates .entry)) ⌝ }
 {
     let k = need_track(h, g.track, false);
-    let causes = taken(s, k, g);
-    let left = store::count_kept(s, causes);
-    if PLACES <= left {
+    let c = taken(s, k, g);
+    if PLACES <= c.left {
         return store::refuse(s, Refusal::Full);
     }
     let nine = step_nine(k, g);
     let f = stored_as(nine.last, g);
     let t = with_head(s, nine);
-    put_in(t, f, causes, left, fates)
+    put_in(t, f, c, fates)
 }
 
 // ---- the call

@@ -12,7 +12,7 @@ use Rattle.seconds.specs.Seconds.{Bound, unbounded, at}
 use Rattle.buffer_state.specs.declared.Frame.{Frame}
 use Rattle.buffer_state.specs.declared.State.{State}
 use Rattle.buffer_state.specs.Append.{regrouped}
-use Rattle.buffer_state.specs.Buffer.{Buffer, withFrames, trackOf, zeroTrack, restarted, restartAll}
+use Rattle.buffer_state.specs.Buffer.{Buffer, withFrames, zeroTrack, restarted, restartAll}
 use Rattle.buffer_state.specs.Layout.{zeroFrame, stateOf, bufferOf, wellFormed}
 use Rattle.buffer_state.specs.Limits.{mostTracks}
 use Rattle.buffer_state.specs.Remove.{endsTrack, afterLoss}
@@ -21,7 +21,7 @@ use Rattle.buffer_laws.proofs.LayoutLaws.{state-back}
 use Rattle.store.specs.Marks.{stored, holding, mark, markedBy}
 use Rattle.store.proofs.ListLaws.{full-all}
 use Rattle.store.proofs.MarksLaws.{marked-length}
-use Rattle.remove.specs.Loss.{lossAt, firstOf, lossOf, settledBy}
+use Rattle.remove.specs.Loss.{endsOn, lossOf, settledBy}
 use Rattle.remove.proofs.PlaceLaws.{laid, few, track-at}
 
 -- ---- the loop
@@ -32,14 +32,6 @@ marked-at (f ∷ fs) [] zero z h = refl
 marked-at (f ∷ fs) [] (suc i) z h = marked-at fs [] i z (omega arith)
 marked-at (f ∷ fs) (c ∷ cs) zero z h = refl
 marked-at (f ∷ fs) (c ∷ cs) (suc i) z h = marked-at fs cs i z (omega arith)
-
-first-first : (a b c : Bound) → firstOf (firstOf a b) c ≡ firstOf a (firstOf b c)
-first-first unbounded b c = refl
-first-first (at z) b c = refl
-
-pub first-none : (a : Bound) → firstOf a unbounded ≡ a
-first-none unbounded = refl
-first-none (at z) = refl
 
 module _ (s : State) (h : wellFormed s ≡ true) (cs : List ℕ) where
   abbrev lossFrom : ℕ → Bound
@@ -55,24 +47,26 @@ module _ (s : State) (h : wellFormed s ≡ true) (cs : List ℕ) where
       let none : drop (s .nframes) (markedBy (stored s) cs) ≡ [] = drop-of-length-le (markedBy (stored s) cs) {i = s .nframes} (omega (arith, marked-length (stored s) cs, stored-length)) in
       rw none
 
-  -- one frame more
-  pub loss-more : (i : ℕ) → i < s .nframes → (place : ℕ) (found next : Bound)
-      → let f = getD (s .frames) i zeroFrame in
-      place + 1 ≡ f .track → next ≡ lossAt (getD (s .tracks) place zeroTrack) (mark f (getD cs i 0))
-      → firstOf (firstOf found next) (lossFrom (i + 1)) ≡ firstOf found (lossFrom i)
-  unfolding lossOf
-  loss-more i k place found next q d =
-      let ms = markedBy (stored s) cs in
-      let m = mark (getD (s .frames) i zeroFrame) (getD cs i 0) in
-      let inside : i < length (stored s) = rw stored-length k in
-      let read : getD ms i (mark zeroFrame 0) ≡ m =
-      marked-at (stored s) cs i zeroFrame inside ∙ ap (λ (f : Frame). mark f (getD cs i 0)) (getD-take (s .nframes) (s .frames) i zeroFrame k) in
-      let front : drop i ms ≡ m ∷ drop (i + 1) ms =
-      rw add-one (drop-cons ms i (mark zeroFrame 0) (rw marked-length inside) ∙ ap (λ (x : Marked). x ∷ drop (suc i) ms) read) in
-      let same : next ≡ lossAt (trackOf (bufferOf s) (m .frame .track)) m = rw (track-at s h i k place q) d in
-      first-first found next (lossFrom (i + 1))
-      ∙ ap (λ (x : Bound). firstOf found (firstOf x (lossFrom (i + 1)))) same
-      ∙ sym (ap (λ (x : List Marked). firstOf found (lossOf (bufferOf s) x)) front)
+  -- a frame more: it ends its track, or the loss is further on
+  module _ (i : ℕ) (k : i < s .nframes) (place : ℕ) (q : place + 1 ≡ getD (s .frames) i zeroFrame .track) where
+    abbrev next : Marked
+    next = mark (getD (s .frames) i zeroFrame) (getD cs i 0)
+
+    front : drop i (markedBy (stored s) cs) ≡ next ∷ drop (i + 1) (markedBy (stored s) cs)
+    front =
+        let ms = markedBy (stored s) cs in
+        let inside : i < length (stored s) = rw stored-length k in
+        let read : getD ms i (mark zeroFrame 0) ≡ next =
+        marked-at (stored s) cs i zeroFrame inside ∙ ap (λ (f : Frame). mark f (getD cs i 0)) (getD-take (s .nframes) (s .frames) i zeroFrame k) in
+        rw add-one (drop-cons ms i (mark zeroFrame 0) (rw marked-length inside) ∙ ap (λ (x : Marked). x ∷ drop (suc i) ms) read)
+
+    pub loss-here : endsOn (getD (s .tracks) place zeroTrack) next ≡ true → lossFrom i ≡ at (next .frame .pts)
+    unfolding lossOf
+    loss-here e = rw (front, track-at s h i k place q, e)
+
+    pub loss-later : endsOn (getD (s .tracks) place zeroTrack) next ≡ false → lossFrom i ≡ lossFrom (i + 1)
+    unfolding lossOf
+    loss-later e = rw (front, track-at s h i k place q, e)
 
 -- ---- the state
 
@@ -87,7 +81,7 @@ after-first [] b = refl
 after-first (m ∷ ms) b = go (endsTrack b m) (after-first ms b)
   where
     go : (t : Bool) → afterLoss ms b ≡ afterAt (lossOf b ms) b
-        → cond t (regrouped b (m .frame .pts)) (afterLoss ms b) ≡ afterAt (firstOf (cond t (at (m .frame .pts)) unbounded) (lossOf b ms)) b
+        → cond t (regrouped b (m .frame .pts)) (afterLoss ms b) ≡ afterAt (cond t (at (m .frame .pts)) (lossOf b ms)) b
     go true e = refl
     go false e = e
 

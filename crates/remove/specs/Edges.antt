@@ -11,7 +11,7 @@ use Rattle.seconds.specs.Seconds.{Bound, unbounded, at, convertible, convertibl
 use Rattle.buffer_state.specs.declared.Frame.{Frame}
 use Rattle.buffer_state.specs.declared.Refusal.the-variants.{Seconds, Order}
 use Rattle.buffer_state.specs.Limits.{mostTracks}
-use Rattle.buffer_state.specs.Remove.{beforeBound, earlierOf, farEdge}
+use Rattle.buffer_state.specs.Remove.{beforeBound, farEdge}
 use Rattle.remove.specs.declared.Instant.{Instant}
 use Rattle.remove.specs.declared.Span.{Span}
 use Rattle.remove.specs.declared.Span.the-variants.{Over, Refused}
@@ -55,9 +55,9 @@ FarEdges e fs es = (track : ℕ) → 1 ≤ track → track ≤ mostTracks → ed
 abbrev pub opensAfter : Bound → Frame → Bool
 opensAfter e f = f .flagged && not (beforeBound (f .pts) e)
 
--- an edge with one frame more in front: such a frame is the edge, if it is earlier
-abbrev pub nearerEdge : Frame → Bound → Bound → Bound
-nearerEdge f e edge = cond (opensAfter e f) (earlierOf (f .pts) edge) edge
+-- such a frame in front of an edge is a nearer one, if it is earlier
+abbrev pub isNearer : Frame → Bound → Bound → Bool
+isNearer f e edge = opensAfter e f && beforeBound (f .pts) edge
 
 -- the cause of a frame from the start up to an edge
 abbrev pub causeTo : ℤ → Bound → Frame → ℕ

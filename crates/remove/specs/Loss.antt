@@ -12,19 +12,10 @@ use Rattle.buffer_state.specs.Store.{Marked, isTaken}
 abbrev pub endsOn : Track → Marked → Bool
 endsOn t m = isTaken m && (t .known && sameInt (m .frame .dts) (t .dts))
 
--- where such a frame was shown
-abbrev pub lossAt : Track → Marked → Bound
-lossAt t m = cond (endsOn t m) (at (m .frame .pts)) unbounded
-
--- the one found first, if there is one, or else the next
-abbrev pub firstOf : Bound → Bound → Bound
-firstOf unbounded next = next
-firstOf (at z) next = at z
-
 -- the presentation time of the first taken frame that ends its track, or none
 unfoldable pub lossOf : Buffer → List Marked → Bound
 lossOf b [] = unbounded
-lossOf b (m ∷ ms) = firstOf (lossAt (trackOf b (m .frame .track)) m) (lossOf b ms)
+lossOf b (m ∷ ms) = let rest = lossOf b ms in cond (endsOn (trackOf b (m .frame .track)) m) (at (m .frame .pts)) rest
 
 -- the state after such a loss: regrouped there, every track begun again
 abbrev pub settledBy : Bound → State → State

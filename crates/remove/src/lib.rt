@@ -3,17 +3,17 @@ ghost use mathlib.Core.Path.{_≡_};
 ghost use mathlib.Core.Bool.{true};
 ghost use mathlib.Core.List.{map};
 ghost use Prim.Native.Nat.{_+_, _≤_, _<_};
-ghost use lib.ListN.{length, take};
+ghost use lib.ListN.{length};
 ghost use lib.Signed.{leZ};
 ghost use Rattle.seconds.specs.Seconds.{at};
 ghost use Rattle.buffer_state.specs.Answers.{counted, listAfter, removeResult};
 ghost use Rattle.buffer_state.specs.Layout.{bufferOf, wellFormed};
 ghost use Rattle.buffer_state.specs.Refusals.{done};
 ghost use Rattle.buffer_state.specs.Remove.{beforeBound, removalMarks, removed};
+ghost use Rattle.buffer_state.specs.Store.{walk};
 ghost use Rattle.store.specs.Marks.{stored, mark, markedBy};
-ghost use Rattle.remove.specs.Edges.{boundIn, instantOf, nowhere, inOrder, spanOf, edgeFor, opensAfter, nearerEdge, FarEdges, causeTo};
-ghost use Rattle.remove.specs.Loss.{endsOn, lossAt, firstOf, lossOf, settledBy};
-use buffer_state::Count;
+ghost use Rattle.remove.specs.Edges.{boundIn, instantOf, nowhere, inOrder, spanOf, edgeFor, opensAfter, isNearer, FarEdges, causeTo};
+ghost use Rattle.remove.specs.Loss.{endsOn, lossOf, settledBy};
 use buffer_state::Counted;
 use buffer_state::Frame;
 use buffer_state::Refusal;
@@ -136,17 +136,11 @@ fn opens(f: Frame, end: Instant) -> bool
     f.flagged & late
 }
 
-// The far edge with one frame more: the frame, if it opens after the end and is earlier.
-fn nearer(f: Frame, end: Instant, edge: Instant) -> Instant
-    ensures { λ r. ⌜ boundIn r ≡ nearerEdge f (boundIn end) (boundIn edge) ⌝ }
+// Whether a frame is a nearer edge: it opens after the end, and is earlier.
+fn is_nearer(f: Frame, end: Instant, edge: Instant) -> bool
+    ensures { λ r. ⌜ r ≡ isNearer f (boundIn end) (boundIn edge) ⌝ }
 {
-    if !opens(f, end) {
-        return edge;
-    }
-    if !shown_before(f, edge) {
-        return edge;
-    }
-    shown_at(f)
+    opens(f, end) & shown_before(f, edge)
 }
 
 // The far edges of all tracks, in one pass from the back.
@@ -158,16 +152,21 @@ fn far_edges(s: State, end: Instant) -> [Instant; 4]
     let mut edges = [none; 4];
     let mut i = s.nframes;
     while 0 < i {
-        i -= 1;
-        let f = s.frames[i];
+        let j = i - 1;
+        let f = s.frames[j];
         let k = place(f);
         let edge = edges[k];
-        edges[k] = nearer(f, end, edge);
+        if is_nearer(f, end, edge) {
+            edges[k] = shown_at(f);
+            i = j;
+        } else {
+            i = j;
+        }
     }
     edges
 }
 
-// ---- the marks
+// ---- the causes
 
 fn cause_to(f: Frame, start: i64, edge: Instant) -> u8
     ensures { λ r. ⌜ r ≡ causeTo start (boundIn edge) f ⌝ }
@@ -178,22 +177,28 @@ fn cause_to(f: Frame, start: i64, edge: Instant) -> u8
     0
 }
 
-// Cause 6 for the frames from the start up to the edge of their track.
-fn marks_to(s: State, start: i64, edges: [Instant; 4]) -> [u8; 1024]
+// Cause 6 for the frames from the start up to the edge of their track, and the walk on from them, in one pass.
+fn causes_to(s: State, start: i64, edges: [Instant; 4]) -> [u8; 1024]
     requires { ⌜ wellFormed s ≡ true ⌝ }
-    ensures { λ r. ⌜ take (s .nframes) r ≡ map (λ f. causeTo start (edgeFor edges (f .track)) f) (stored s) ⌝ }
+    ensures { λ r. ⌜ markedBy (stored s) r ≡ walk (map (λ f. mark f (causeTo start (edgeFor edges (f .track)) f)) (stored s)) ⌝ }
 {
     let n = s.nframes;
-    let mut marks = [0u8; 1024];
+    let mut causes = [0u8; 1024];
+    let mut track: u8 = 0;
+    let mut follows = false;
     let mut i: usize = 0;
     while i < n {
         let f = s.frames[i];
         let k = place(f);
         let edge = edges[k];
-        marks[i] = cause_to(f, start, edge);
+        let mark = cause_to(f, start, edge);
+        let cause = store::walked(f, mark, track, follows);
+        causes[i] = cause;
+        track = f.track;
+        follows = cause != 0;
         i += 1;
     }
-    marks
+    causes
 }
 
 // The causes by which a removal takes the stored frames.
@@ -202,8 +207,7 @@ fn causes(s: State, start: i64, end: Instant) -> [u8; 1024]
     ensures { λ r. ⌜ markedBy (stored s) r ≡ removalMarks start (boundIn end) (stored s) ⌝ }
 {
     let edges = far_edges(s, end);
-    let marks = marks_to(s, start, edges);
-    store::walk(s, marks)
+    causes_to(s, start, edges)
 }
 
 // ---- the rule on the last decode time
@@ -215,41 +219,23 @@ fn ends_track(f: Frame, t: Track, cause: u8) -> bool
     (cause != 0) & (t.known & validation::same_int(f.dts, t.dts))
 }
 
-// Where a frame with this cause was shown, if it ends its track.
-fn lost_at(f: Frame, t: Track, cause: u8) -> Instant
-    ensures { λ r. ⌜ boundIn r ≡ lossAt t (mark f cause) ⌝ }
-{
-    if !ends_track(f, t, cause) {
-        return never();
-    }
-    shown_at(f)
-}
-
-fn first_of(found: Instant, next: Instant) -> Instant
-    ensures { λ r. ⌜ boundIn r ≡ firstOf (boundIn found) (boundIn next) ⌝ }
-{
-    if !found.set {
-        return next;
-    }
-    found
-}
-
 // Where the first taken frame that ends its track was shown.
 fn loss(s: State, causes: [u8; 1024]) -> Instant
     requires { ⌜ wellFormed s ≡ true ⌝ }
     ensures { λ r. ⌜ boundIn r ≡ lossOf (bufferOf s) (markedBy (stored s) causes) ⌝ }
 {
     let n = s.nframes;
-    let mut first = never();
     let mut i: usize = 0;
     while i < n {
         let f = s.frames[i];
         let k = place(f);
         let t = s.tracks[k];
-        first = first_of(first, lost_at(f, t, causes[i]));
+        if ends_track(f, t, causes[i]) {
+            return shown_at(f);
+        }
         i += 1;
     }
-    first
+    never()
 }
 
 // The state after such a loss: regrouped there, every track begun again.
@@ -282,10 +268,11 @@ fn take_out(s: State, start: i64, end: Instant, fates: &mut [[u32; 2]]) -> Count
 {
     let marks = causes(s, start, end);
     let first = loss(s, marks);
-    let n = store::write_lines(s, marks, fates);
-    let left = store::compact(s, marks);
+    let out = store::take_marked(s, marks, fates);
+    let answer = out.answer;
+    let left = out.state;
     Counted {
-        answer: Count::Done(n),
+        answer: answer,
         state: settled(left, first),
     }
 }

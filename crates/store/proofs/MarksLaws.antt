@@ -1,22 +1,23 @@
 -- The marks of a call: frames and causes apart and together again, and the state that holds a list of frames.
 use mathlib.Core.Path.{_≡_, refl, sym, ap, _∙_}
 use mathlib.Core.Bool.{Bool, true, false, cond, not, _&&_}
-use mathlib.Core.List.{List, [], _∷_, _++_, map, append-nil}
-use Prim.Native.Nat.{ℕ, _≤_}
+use mathlib.Core.List.{List, [], _∷_, _++_}
+use Prim.Native.Nat.{ℕ, zero, suc, _≤_, _<_}
+use native.Mathlib.Omega.{arith}
 use lib.Dec.{eqb}
-use lib.ListN.{length, take, length-map}
+use lib.ListN.{length, take, getD, set, length-map}
 use lib.Seq.{take-append-seam, take-all}
 use Rattle.laws.proofs.BoolLaws.{and-left}
 use Rattle.buffer_state.specs.declared.Frame.{Frame}
 use Rattle.buffer_state.specs.declared.State.{State}
 use Rattle.buffer_state.specs.Limits.{places}
-use Rattle.buffer_state.specs.Store.{Marked, markWhere, followsTaken, walkOne, walkFrom, walk}
+use Rattle.buffer_state.specs.Store.{Marked, followsTaken, walkOne}
 use Rattle.buffer_state.specs.WellFormed.{sorted}
 use Rattle.buffer_state.specs.Layout.{zeroFrame, padded, isZeroFrame, bufferOf, wellFormed}
 use Rattle.buffer_laws.proofs.LayoutLaws.{laid-out, padded-back, frame-zero, well-formed-good}
 use Rattle.buffer_laws.proofs.GoodLaws.{good-facts}
 use Rattle.buffer_laws.proofs.StoreLaws.{framesOf}
-use Rattle.store.specs.Marks.{stored, ZerosPast, withStore, holding, mark, markedBy, causesOf, causeAfter}
+use Rattle.store.specs.Marks.{stored, ZerosPast, withStore, holding, mark, markedBy, causeAfter}
 
 -- ---- the state that holds a list
 
@@ -59,44 +60,18 @@ marked-length fs cs = sym (length-map (markedBy fs cs) _) ∙ ap length (marked-
 pub marked-all : (fs : List Frame) (cs : List ℕ) (n : ℕ) → length fs ≤ n → take n (markedBy fs cs) ≡ markedBy fs cs
 marked-all fs cs n h = take-all n (markedBy fs cs) (rw marked-length h)
 
-pub causes-length : (ms : List Marked) → length (causesOf ms) ≡ length ms
-causes-length ms = length-map ms _
+-- a cause more is written
+pub marked-written : (fs : List Frame) (cs : List ℕ) (i d : ℕ) (z : Frame) → i < length fs → i < length cs
+    → take (suc i) (markedBy fs (set cs i d)) ≡ take i (markedBy fs cs) ++ (mark (getD fs i z) d ∷ [])
+marked-written [] cs i d z h g = absurd (omega arith)
+marked-written (f ∷ fs) [] i d z h g = absurd (omega arith)
+marked-written (f ∷ fs) (c ∷ cs) zero d z h g = refl
+marked-written (f ∷ fs) (c ∷ cs) (suc i) d z h g = ap (λ (ms : List Marked). mark f c ∷ ms) (marked-written fs cs i d z (omega arith) (omega arith))
 
--- marks put together again, whatever stands past their causes
-pub marked-again : (ms : List Marked) (more : List ℕ) → markedBy (framesOf ms) (causesOf ms ++ more) ≡ ms
-marked-again [] more = refl
-marked-again (m ∷ ms) more = ap (λ (l : List Marked). m ∷ l) (marked-again ms more)
-
-pub marked-back : (fs : List Frame) (ms : List Marked) → framesOf ms ≡ fs → markedBy fs (causesOf ms) ≡ ms
-marked-back fs ms e = rw (← e, ← append-nil (causesOf ms)) (marked-again ms [])
-
-pub mark-causes : (p : Frame → Bool) (c : ℕ) (fs : List Frame) → causesOf (markWhere p c fs) ≡ map (λ (f : Frame). cond (p f) c 0) fs
-mark-causes p c [] = refl
-mark-causes p c (f ∷ fs) = ap (λ (l : List ℕ). cond (p f) c 0 ∷ l) (mark-causes p c fs)
-
--- ---- the walk changes causes alone
-
+-- the walk changes causes alone
 pub walk-one : (walked : List Marked) (f : Frame) (c : ℕ) → walkOne walked (mark f c) ≡ mark f (causeAfter (followsTaken (f .track) walked) f c)
 walk-one walked f c = go (not (not (eqb c 0)) && (not (f .flagged) && followsTaken (f .track) walked))
   where
     go : (t : Bool) → cond t (mark f 5) (mark f c) ≡ mark f (cond t 5 c)
     go true = refl
     go false = refl
-
-again : (walked : List Marked) (f : Frame) (c : ℕ) (ms ns : List Marked) → ms ≡ ns → mark f (walkOne walked (mark f c) .cause) ∷ ms ≡ walkOne walked (mark f c) ∷ ns
-again walked f c ms ns e = rw (walk-one walked f c) (ap (λ (l : List Marked). mark f (causeAfter (followsTaken (f .track) walked) f c) ∷ l) e)
-
-walk-again-from : (walked : List Marked) (fs : List Frame) (cs more : List ℕ)
-    → markedBy fs (causesOf (walkFrom walked (markedBy fs cs)) ++ more) ≡ walkFrom walked (markedBy fs cs)
-unfolding walkFrom
-walk-again-from walked [] cs more = refl
-walk-again-from walked (f ∷ fs) [] more = again walked f 0 _ _ (walk-again-from (walkOne walked (mark f 0) ∷ walked) fs [] more)
-walk-again-from walked (f ∷ fs) (c ∷ cs) more = again walked f c _ _ (walk-again-from (walkOne walked (mark f c) ∷ walked) fs cs more)
-
--- the frames with their causes after the walk are the walked marks
-pub walk-again : (fs : List Frame) (cs more : List ℕ) → markedBy fs (causesOf (walk (markedBy fs cs)) ++ more) ≡ walk (markedBy fs cs)
-walk-again = walk-again-from []
-
-pub walk-frames : (fs : List Frame) (cs : List ℕ) → framesOf (walk (markedBy fs cs)) ≡ fs
-walk-frames fs cs =
-    ap framesOf (sym (walk-again fs cs [])) ∙ marked-frames fs (causesOf (walk (markedBy fs cs)) ++ [])

@@ -16,6 +16,7 @@ use Rattle.buffer_laws.proofs.StoreLaws.{framesOf, kept-length}
 use Rattle.store.specs.Marks.{mark, markedBy}
 use Rattle.laws.proofs.ListLaws.{first-length}
 use mathlib.Core.List.{map-append}
+use Rattle.store.proofs.MarksLaws.{marked-written}
 use Rattle.store.proofs.ListLaws.{front-more, front-read, front-length, padded-zero, padded-put}
 
 marks-next : (fs : List Frame) (cs : List ℕ) (i : ℕ) (z : Frame) → i < length fs
@@ -61,22 +62,32 @@ all-kept (m ∷ ms) e = go (isTaken m) (λ d. all-kept ms d) e
     go false rest e = let r = rest (omega arith) in (ap (λ (l : List Frame). m .frame ∷ l) (r .0), r .1)
 
 module _ (fs : List Frame) (cs : List ℕ) (i : ℕ) (z : Frame) (h : i < length fs) where
-  pub kept-more : getD cs i 0 ≡ 0 → kept (take (i + 1) (markedBy fs cs)) ≡ kept (take i (markedBy fs cs)) ++ (getD fs i z ∷ [])
+  kept-more : getD cs i 0 ≡ 0 → kept (take (i + 1) (markedBy fs cs)) ≡ kept (take i (markedBy fs cs)) ++ (getD fs i z ∷ [])
   unfolding kept
   kept-more e = rw (add-one, marks-next fs cs i z h, kept-append, eq-eqb (getD cs i 0) 0 e)
 
-  pub kept-same : (getD cs i 0 ≡ 0 → ⊥) → kept (take (i + 1) (markedBy fs cs)) ≡ kept (take i (markedBy fs cs))
+  kept-same : (getD cs i 0 ≡ 0 → ⊥) → kept (take (i + 1) (markedBy fs cs)) ≡ kept (take i (markedBy fs cs))
   unfolding kept
   kept-same e = rw (add-one, marks-next fs cs i z h, kept-append, ne-eqb (getD cs i 0) 0 e) (append-nil _)
 
-  pub lines-more : (getD cs i 0 ≡ 0 → ⊥)
+  lines-more : (getD cs i 0 ≡ 0 → ⊥)
       → linesOf (take (i + 1) (markedBy fs cs)) ≡ linesOf (take i (markedBy fs cs)) ++ (record { number = getD fs i z .number; cause = getD cs i 0 } ∷ [])
   unfolding linesOf
   lines-more e = rw (add-one, marks-next fs cs i z h, lines-append, ne-eqb (getD cs i 0) 0 e)
 
-  pub lines-same : getD cs i 0 ≡ 0 → linesOf (take (i + 1) (markedBy fs cs)) ≡ linesOf (take i (markedBy fs cs))
+  lines-same : getD cs i 0 ≡ 0 → linesOf (take (i + 1) (markedBy fs cs)) ≡ linesOf (take i (markedBy fs cs))
   unfolding linesOf
   lines-same e = rw (add-one, marks-next fs cs i z h, lines-append, eq-eqb (getD cs i 0) 0 e) (append-nil _)
+
+-- how many are kept, where a cause more is written
+module _ (fs : List Frame) (cs : List ℕ) (i d left : ℕ) (z : Frame) (h : i < length fs) (g : i < length cs) (e : left ≡ length (kept (take i (markedBy fs cs)))) where
+  pub left-more : d ≡ 0 → left + 1 ≡ length (kept (take (i + 1) (markedBy fs (set cs i d))))
+  unfolding kept
+  left-more q = rw (add-one i, marked-written fs cs i d z h g, kept-append, eq-eqb d 0 q) (omega (arith, e, length-append (kept (take i (markedBy fs cs))) (getD fs i z ∷ [])))
+
+  pub left-same : (d ≡ 0 → ⊥) → left ≡ length (kept (take (i + 1) (markedBy fs (set cs i d))))
+  unfolding kept
+  left-same q = rw (add-one i, marked-written fs cs i d z h g, kept-append, ne-eqb d 0 q) (e ∙ ap length (sym (append-nil (kept (take i (markedBy fs cs))))))
 
 -- ---- a turn of a loop over the first n frames
 
@@ -97,13 +108,13 @@ module _ (l : List Frame) (n : ℕ) (m : n ≤ length l) (cs : List ℕ) (i : �
         → (k ≡ length (linesTo l n cs (i + 1))) × (out ≡ written (linesTo l n cs (i + 1)) ++ drop k d)
     pass-turn e = rw (lines-same (take n l) cs i z inside e) (r, q)
 
-    pub write-turn : k < length d → (getD cs i 0 ≡ 0 → ⊥) → (c : ℕ) → c ≡ getD cs i 0
+    pub write-turn : k < length d → (getD cs i 0 ≡ 0 → ⊥) → (f : Frame) → f ≡ getD (take n l) i z → (c : ℕ) → c ≡ getD cs i 0
         → (k + 1 ≡ length (linesTo l n cs (i + 1)))
-        × (set out k (getD l i z .number ∷ c ∷ []) ≡ written (linesTo l n cs (i + 1)) ++ drop (k + 1) d)
-    write-turn g e c w =
+        × (set out k (f .number ∷ c ∷ []) ≡ written (linesTo l n cs (i + 1)) ++ drop (k + 1) d)
+    write-turn g e f v c w =
         let ls : List Line = linesTo l n cs i in
         let line : Line = record { number = getD (take n l) i z .number; cause = getD cs i 0 } in
-        rw (lines-more (take n l) cs i z inside e, q, w, ← getD-take n l i z h) (
+        rw (lines-more (take n l) cs i z inside e, q, w, v) (
           omega (arith, length-append ls (line ∷ [])),
           rw (map-append (λ (x : Line). x .number ∷ x .cause ∷ []) ls (line ∷ []))
               (front-more (written ls) d k (r ∙ sym (length-map ls _)) (line .number ∷ line .cause ∷ []) g),
@@ -118,6 +129,14 @@ module _ (l : List Frame) (n : ℕ) (m : n ≤ length l) (cs : List ℕ) (i : �
         (front-more (padded i o ks) l i (front-length o ks i (omega arith)) o (omega arith)
         ∙ ap (λ (p : List Frame). p ++ drop (i + 1) l) (padded-zero o ks i (omega arith)))
 
+    -- the frame at the place is the stored one
+    pub frame-read : getD t i z ≡ getD (take n l) i z
+    frame-read =
+        let ks : List Frame = keptTo l n cs i in
+        ap (λ (x : List Frame). getD x i z) q
+        ∙ front-read (padded i o ks) l i (front-length o ks i (omega arith)) i z (omega arith)
+        ∙ sym (getD-take n l i z h)
+
     pub clear-turn : (getD cs i 0 ≡ 0 → ⊥)
         → (k ≡ length (keptTo l n cs (i + 1))) × (set t i o ≡ padded (i + 1) o (keptTo l n cs (i + 1)) ++ drop (i + 1) l)
     clear-turn e = rw (kept-same (take n l) cs i z inside e) (r, cleared)
@@ -128,9 +147,5 @@ module _ (l : List Frame) (n : ℕ) (m : n ≤ length l) (cs : List ℕ) (i : �
     keep-turn e =
         let ks : List Frame = keptTo l n cs i in
         let f : Frame = getD (take n l) i z in
-        let read : getD t i z ≡ f =
-        ap (λ (x : List Frame). getD x i z) q
-        ∙ front-read (padded i o ks) l i (front-length o ks i (omega arith)) i z (omega arith)
-        ∙ sym (getD-take n l i z h) in
-        rw (kept-more (take n l) cs i z inside e, cleared, read)
+        rw (kept-more (take n l) cs i z inside e, cleared, frame-read)
         (omega (arith, length-append ks (f ∷ [])), rw r (padded-put o ks i (omega arith) f (drop (i + 1) l)))

@@ -1,43 +1,32 @@
 -- Step 8's walk with one flag: over sorted frames, what the definition asks of all the frames walked is asked of the last.
 use mathlib.Core.Path.{_≡_, refl, sym, ap, _∙_}
 use mathlib.Core.Bool.{Bool, true, false, cond, not, _&&_, _||_, and-false, or-false}
-use mathlib.Core.List.{List, [], _∷_, _++_}
-use Prim.Native.Nat.{ℕ, suc, _+_, _≤_, _<_}
+use mathlib.Core.List.{List, [], _∷_, _++_, map, append-nil}
+use Prim.Native.Nat.{ℕ, _+_, _≤_, _<_}
 use native.Mathlib.Numerals.{add-one}
 use native.Mathlib.Omega.{arith}
 use lib.Dec.{leb, eqb, leb·zero}
-use lib.ListN.{length, take, drop, getD, set, take-append-drop}
-use lib.Seq.{drop-cons, take-suc-set, drop-set-lt, append-snoc}
+use lib.ListN.{length, take, drop, getD, set}
+use lib.Seq.{getD-take, append-snoc}
 use borrow.Author.Tests.{ltb-true, leb-true, eqb-true, eqb-false, le-leb, eq-eqb, ne-eqb}
 use Rattle.laws.proofs.BoolLaws.{split}
 use Rattle.buffer_state.specs.declared.Frame.{Frame}
 use Rattle.buffer_state.specs.Store.{before, Marked, isTaken, followsTaken, walkOne, walkFrom, walk}
 use Rattle.buffer_state.specs.WellFormed.{allOf, sorted}
 use Rattle.buffer_laws.proofs.TestLaws.{all-first, all-more, all-none, all-weaker, pairs-first, pairs-rest}
-use Rattle.store.specs.Marks.{mark, markedBy, causesOf, causeAfter}
+use Rattle.store.specs.Marks.{mark, markedBy, causeAfter}
 use Rattle.laws.proofs.ListLaws.{first-length, first-next, first-end}
-use Rattle.store.proofs.MarksLaws.{walk-one}
+use Rattle.store.proofs.MarksLaws.{marked-all, marked-written, walk-one}
 
--- the causes after the walk, one frame after another: the last frame's track and whether it is taken are carried along
-pub stepped : ℕ → Bool → List Frame → List ℕ → List ℕ
-stepped track follows [] cs = cs
-stepped track follows (f ∷ fs) [] = []
-stepped track follows (f ∷ fs) (c ∷ cs) =
-    let d = causeAfter (eqb (f .track) track && follows) f c in d ∷ stepped (f .track) (not (eqb d 0)) fs cs
+-- the marks after the walk, one frame after another: p gives the cause before it, and the last frame's track and whether it is taken are carried along
+pub stepped : (Frame → ℕ) → ℕ → Bool → List Frame → List Marked
+stepped p track follows [] = []
+stepped p track follows (f ∷ fs) =
+    let d = causeAfter (eqb (f .track) track && follows) f (p f) in mark f d ∷ stepped p (f .track) (not (eqb d 0)) fs
 
--- ---- a turn of the loop, and its end
-
-module _ (l : List Frame) (n : ℕ) (k : n ≤ length l) (i : ℕ) (z : Frame) (cs : List ℕ) (track : ℕ) (follows : Bool) where
-  pub step-turn : i < n → i < length cs → (d : ℕ) → d ≡ causeAfter (eqb (getD l i z .track) track && follows) (getD l i z) (getD cs i 0)
-      → take i cs ++ stepped track follows (drop i (take n l)) (drop i cs)
-      ≡ take (i + 1) (set cs i d) ++ stepped (getD l i z .track) (not (eqb d 0)) (drop (i + 1) (take n l)) (drop (i + 1) (set cs i d))
-  unfolding stepped
-  step-turn h g d e =
-      rw (first-next l n k i z h, add-one i, drop-cons cs i 0 g, take-suc-set cs i d g, drop-set-lt (suc i) cs i d (omega arith), ← e, append-snoc)
-
-  pub step-end : n ≤ i → take i cs ++ stepped track follows (drop i (take n l)) (drop i cs) ≡ cs
-  unfolding stepped
-  step-end h = rw (first-end l n k i h) (take-append-drop i cs)
+-- what a loop that writes the causes keeps: the marks passed, then those that steps from here would give, are the steps' from the start
+abbrev pub Stepping : (Frame → ℕ) → List Frame → List ℕ → ℕ → ℕ → Bool → Type 0
+Stepping p fs cs i track follows = take i (markedBy fs cs) ++ stepped p track follows (drop i fs) ≡ stepped p 0 false fs
 
 -- ---- the walk by one flag is the definition's
 
@@ -82,26 +71,35 @@ module _ (walked : List Marked) (track : ℕ) (follows : Bool) (tells : Tells wa
       let q : u ≡ f .track → ⊥ = λ p. eqb-false (f .track) u e (sym p) in
       rw (e, ne-eqb u (f .track) q, tells u (omega arith), ne-eqb u track (λ p. q (omega arith))))
 
-step-walk : (walked : List Marked) (track : ℕ) (follows : Bool) (fs : List Frame) (cs : List ℕ)
-    → Tells walked track follows → allOf (λ (g : Frame). leb track (g .track)) fs ≡ true → sorted fs ≡ true → length fs ≤ length cs
-    → stepped track follows fs cs ≡ causesOf (walkFrom walked (markedBy fs cs)) ++ drop (length fs) cs
+step-walk : (p : Frame → ℕ) (walked : List Marked) (track : ℕ) (follows : Bool) (fs : List Frame)
+    → Tells walked track follows → allOf (λ (g : Frame). leb track (g .track)) fs ≡ true → sorted fs ≡ true
+    → stepped p track follows fs ≡ walkFrom walked (map (λ (f : Frame). mark f (p f)) fs)
 unfolding stepped walkFrom sorted
-step-walk walked track follows [] cs tells later s k = refl
-step-walk walked track follows (f ∷ fs) [] tells later s k = absurd (omega arith)
-step-walk walked track follows (f ∷ fs) (c ∷ cs) tells later s k =
+step-walk p walked track follows [] tells later s = refl
+step-walk p walked track follows (f ∷ fs) tells later s =
     let here : ℕ → Frame → Bool = λ (t : ℕ) (g : Frame). leb t (g .track) in
     let h : track ≤ f .track = leb-true track (f .track) (all-first (here track) f fs later) in
-    let n : Marked = after walked track follows tells f c h in
+    let n : Marked = after walked track follows tells f (p f) h in
     let next = all-weaker (before f) (here (f .track)) (before-track f) fs (pairs-first before f fs s) in
-    let rest = step-walk (n ∷ walked) (f .track) (isTaken n) fs cs (tells-after walked track follows tells f c h) next (pairs-rest before f fs s) (omega arith) in
-    ap (λ (l : List ℕ). n .cause ∷ l) rest
-    ∙ ap (λ (m : Marked). m .cause ∷ (causesOf (walkFrom (m ∷ walked) (markedBy fs cs)) ++ drop (length fs) cs)) (sym (walk-after walked track follows tells f c h))
+    let rest = step-walk p (n ∷ walked) (f .track) (isTaken n) fs (tells-after walked track follows tells f (p f) h) next (pairs-rest before f fs s) in
+    ap (λ (ms : List Marked). n ∷ ms) rest
+    ∙ ap (λ (m : Marked). m ∷ walkFrom (m ∷ walked) (map (λ (g : Frame). mark g (p g)) fs)) (sym (walk-after walked track follows tells f (p f) h))
 
--- over sorted frames the walk by one flag is the definition's
-pub walk-stepped : (l : List Frame) (n : ℕ) → n ≤ length l → (cs : List ℕ) → n ≤ length cs → sorted (take n l) ≡ true
-    → stepped 0 false (take n l) cs ≡ causesOf (walk (markedBy (take n l) cs)) ++ drop n cs
-unfolding followsTaken
-walk-stepped l n k cs g s =
-    let e = first-length l n k in
-    step-walk [] 0 false (take n l) cs (λ u _. sym (and-false (eqb u 0))) (any-track (take n l)) s (omega arith)
-    ∙ ap (λ (m : ℕ). causesOf (walk (markedBy (take n l) cs)) ++ drop m cs) e
+-- ---- a turn of the loop, and its end
+
+module _ (p : Frame → ℕ) (l : List Frame) (n : ℕ) (k : n ≤ length l) (cs : List ℕ) (i track : ℕ) (follows : Bool) (e : Stepping p (take n l) cs i track follows) where
+  pub step-turn : (z : Frame) → i < n → i < length cs → (d : ℕ) → d ≡ causeAfter (eqb (getD l i z .track) track && follows) (getD l i z) (p (getD l i z))
+      → Stepping p (take n l) (set cs i d) (i + 1) (getD l i z .track) (not (eqb d 0))
+  unfolding stepped
+  step-turn z h g d q =
+      rw (add-one i, marked-written (take n l) cs i d z (rw (first-length l n k) h) g, append-snoc, getD-take n l i z h, q)
+      (rw (first-next l n k i z h, add-one i) at e)
+
+  -- over sorted frames the walk by one flag is the definition's
+  pub step-end : n ≤ i → sorted (take n l) ≡ true → markedBy (take n l) cs ≡ walk (map (λ (f : Frame). mark f (p f)) (take n l))
+  unfolding stepped followsTaken
+  step-end h s =
+      let all = marked-all (take n l) cs i (omega (arith, first-length l n k)) in
+      sym (append-nil (take i (markedBy (take n l) cs)) ∙ all)
+      ∙ rw (first-end l n k i h) at e
+      ∙ step-walk p [] 0 false (take n l) (λ u _. sym (and-false (eqb u 0))) (any-track (take n l)) s

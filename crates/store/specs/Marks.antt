@@ -1,6 +1,6 @@
 -- The stored frames of a State as a list, and causes in step with them: what the calls that take frames out work on.
 use mathlib.Core.Bool.{Bool, cond, not, _&&_}
-use mathlib.Core.List.{List, [], _∷_, _++_, map}
+use mathlib.Core.List.{List, [], _∷_, _++_}
 use mathlib.Core.Path.{_≡_}
 use Prim.Native.Nat.{ℕ}
 use lib.Dec.{eqb}
@@ -48,10 +48,6 @@ abbrev pub markedBy : List Frame → List ℕ → List Marked
 markedBy [] cs = []
 markedBy (f ∷ fs) [] = mark f 0 ∷ markedBy fs []
 markedBy (f ∷ fs) (c ∷ cs) = mark f c ∷ markedBy fs cs
-
--- the causes alone
-abbrev pub causesOf : List Marked → List ℕ
-causesOf = map (λ (m : Marked). m .cause)
 
 -- the cause of a frame after step 8's walk, which reaches it or not: 5 where it is not taken, not flagged, and reached
 abbrev pub causeAfter : Bool → Frame → ℕ → ℕ

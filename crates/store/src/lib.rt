@@ -1,16 +1,15 @@
 // The stored frames in their array: what append and remove do with them alike. Marks are causes in step with the frames, 0 for none.
 ghost use mathlib.Core.Path.{_≡_};
 ghost use mathlib.Core.Bool.{true, _&&_};
-ghost use mathlib.Core.List.{_++_};
 ghost use Prim.Native.Nat.{_≤_, _<_};
 ghost use lib.Dec.{eqb};
-ghost use lib.ListN.{length, drop};
+ghost use lib.ListN.{length};
 ghost use lib.Signed.{ltZ};
-ghost use Rattle.buffer_state.specs.Store.{before, insertSorted, walk, kept, linesOf};
+ghost use Rattle.buffer_state.specs.Store.{before, insertSorted, kept};
 ghost use Rattle.buffer_state.specs.WellFormed.{sorted};
 ghost use Rattle.buffer_state.specs.Layout.{zeroFrame};
-ghost use Rattle.store.specs.Marks.{stored, ZerosPast, holding, markedBy, causesOf, causeAfter};
-ghost use Rattle.buffer_state.specs.Answers.{written, counted};
+ghost use Rattle.store.specs.Marks.{stored, ZerosPast, holding, markedBy, causeAfter, leaving, linesThen};
+ghost use Rattle.buffer_state.specs.Answers.{counted};
 ghost use Rattle.buffer_state.specs.Refusals.{refused};
 use buffer_state::Count;
 use buffer_state::Counted;
@@ -67,7 +66,7 @@ pub fn insert(s: State, f: Frame) -> State
 // ---- step 8
 
 // The cause of f after the walk, which reaches it from a taken frame of its track: the one walked last.
-fn walked(f: Frame, cause: u8, track: u8, follows: bool) -> u8
+pub fn walked(f: Frame, cause: u8, track: u8, follows: bool) -> u8
     ensures { λ r. ⌜ r ≡ causeAfter (eqb (f .track) track && follows) f cause ⌝ }
 {
     if cause != 0 {
@@ -85,77 +84,13 @@ fn walked(f: Frame, cause: u8, track: u8, follows: bool) -> u8
     cause
 }
 
-// Step 8's walk over the stored frames: their causes after it, and the marks past them as they were.
-pub fn walk(s: State, marks: [u8; 1024]) -> [u8; 1024]
-    requires { ⌜ (s .nframes ≤ 1024) × (sorted (stored s) ≡ true) ⌝ }
-    ensures { λ r. ⌜ r ≡ causesOf (walk (markedBy (stored s) marks)) ++ drop (s .nframes) marks ⌝ }
-{
-    let mut causes = marks;
-    let n = s.nframes;
-    let mut track: u8 = 0;
-    let mut follows = false;
-    let mut i: usize = 0;
-    while i < n {
-        let f = s.frames[i];
-        let cause = walked(f, causes[i], track, follows);
-        causes[i] = cause;
-        track = f.track;
-        follows = cause != 0;
-        i += 1;
-    }
-    causes
-}
-
 // ---- what is left, and what is told
-
-// How many stored frames have no cause.
-pub fn count_kept(s: State, marks: [u8; 1024]) -> usize
-    requires { ⌜ s .nframes ≤ 1024 ⌝ }
-    ensures { λ r. ⌜ r ≡ length (kept (markedBy (stored s) marks)) ⌝ }
-{
-    let n = s.nframes;
-    let mut k: usize = 0;
-    let mut i: usize = 0;
-    while i < n {
-        if marks[i] != 0 {
-            i += 1;
-        } else {
-            k += 1;
-            i += 1;
-        }
-    }
-    k
-}
 
 // A cause as a fate line holds it.
 pub fn wide(cause: u8) -> u32
     ensures { λ r. ⌜ r ≡ cause ⌝ }
 {
     cause as u32
-}
-
-// Writes the lines of the frames that have a cause, and returns how many there are.
-pub fn write_lines(s: State, marks: [u8; 1024], fates: &mut [[u32; 2]]) -> usize
-    requires { ⌜ (s .nframes ≤ 1024) × (1024 ≤ length (now fates)) ⌝ }
-    ensures lines { λ r. ⌜ now (fates .exit) ≡ written (linesOf (markedBy (stored s) marks)) ++ drop r (now (fates .entry)) ⌝ }
-    ensures count { λ r. ⌜ r ≡ length (linesOf (markedBy (stored s) marks)) ⌝ }
-{
-    let n = s.nframes;
-    let mut k: usize = 0;
-    let mut i: usize = 0;
-    while i < n {
-        let cause = marks[i];
-        if cause == 0 {
-            i += 1;
-        } else {
-            let f = s.frames[i];
-            let line = [f.number, wide(cause)];
-            fates[k] = line;
-            k += 1;
-            i += 1;
-        }
-    }
-    k
 }
 
 fn zero_frame() -> Frame
@@ -171,29 +106,39 @@ fn zero_frame() -> Frame
     }
 }
 
-// The state with the frames that have no cause. A turn clears a place, and puts the frame that stood there back where it is kept.
-pub fn compact(s: State, marks: [u8; 1024]) -> State
-    requires { ⌜ (s .nframes ≤ 1024) × ZerosPast s ⌝ }
-    ensures { λ r. ⌜ r ≡ holding s (kept (markedBy (stored s) marks)) ⌝ }
+// Takes out the frames that have a cause and writes their lines. A turn clears a place, and puts the frame that stood there back
+// where it is kept.
+pub fn take_marked(s: State, causes: [u8; 1024], fates: &mut [[u32; 2]]) -> Counted
+    requires { ⌜ (s .nframes ≤ 1024) × ZerosPast s × (1024 ≤ length (now fates)) ⌝ }
+    ensures answer { λ r. ⌜ r ≡ leaving s (kept (markedBy (stored s) causes)) (markedBy (stored s) causes) ⌝ }
+    ensures lines { λ r. ⌜ now (fates .exit) ≡ linesThen (markedBy (stored s) causes) (now (fates .entry)) ⌝ }
 {
     let mut t = s;
     let n = s.nframes;
     let z = zero_frame();
     let mut k: usize = 0;
+    let mut m: usize = 0;
     let mut i: usize = 0;
     while i < n {
         let f = t.frames[i];
+        let cause = causes[i];
         t.frames[i] = z;
-        if marks[i] == 0 {
+        if cause == 0 {
             t.frames[k] = f;
             k += 1;
             i += 1;
         } else {
+            let line = [f.number, wide(cause)];
+            fates[m] = line;
+            m += 1;
             i += 1;
         }
     }
     t.nframes = k;
-    t
+    Counted {
+        answer: Count::Done(m),
+        state: t,
+    }
 }
 
 // ---- a refusal

@@ -41,18 +41,15 @@ taken-requires : tie.Need-taken-requires
 taken-requires c κs = ready c
 
 -- the causes are the definition's
-marked : (c : tie.After-taken) → markedBy (stored (c .before .before .args .s)) (c .taken .result) ≡ overlapMarks (storing (c .before .before))
+marked : (c : tie.After-taken) → markedBy (stored (c .before .before .args .s)) (c .taken .result .of) ≡ overlapMarks (storing (c .before .before))
 marked c =
     let k = c .before in
     let s = k .before in
-    c .taken .ensures ∙ ap overlapMarks (needing-pass (s .args .s) (s .args .h) (s .args .g) (s .pre .0) (k .need-track .result) (headed k))
-
-count-kept-requires : tie.Need-count-kept-requires
-count-kept-requires c κs = good-store _ (c .before .before .pre .0 .whole) .few
+    c .taken .ensures .0 ∙ ap overlapMarks (needing-pass (s .args .s) (s .args .h) (s .args .g) (s .pre .0) (k .need-track .result) (headed k))
 
 -- how many frames are left
-left : (c : tie.After-count-kept) → c .count-kept .result ≡ length (kept (overlapMarks (storing (c .before .before .before))))
-left c = c .count-kept .ensures ∙ ap (λ (ms : List Marked). length (kept ms)) (marked (c .before))
+left : (c : tie.After-taken) → c .taken .result .left ≡ length (kept (overlapMarks (storing (c .before .before))))
+left c = c .taken .ensures .1 ∙ ap (λ (ms : List Marked). length (kept ms)) (marked c)
 
 refuse-requires : tie.Need-refuse-requires
 refuse-requires c κs = search needs
@@ -60,8 +57,8 @@ refuse-requires c κs = search needs
 returns : tie.Need-returns
 returns c =
     let i = c .before in
-    let n = i .before in
-    let s = n .before .before .before in
+    let n = i .before .before in
+    let s = n .before .before in
     let a = s .args in
     let full = store-full (passAt (a .s) (a .h) (a .g)) (s .pre .1) (omega (arith, stored-count (storing s), left n, i .if1 .taken)) in
     answered (a .s) (a .fates .now) (refused Full) full (c .refuse .ensures) refl
@@ -79,15 +76,15 @@ put-in-requires : tie.Need-put-in-requires
 put-in-requires c κs =
     let t = c .before in
     let i = t .before .before .before in
-    let n = i .before in
-    let s = n .before .before .before in
+    let n = i .before .before in
+    let s = n .before .before in
     let good = good-store _ (s .pre .0 .whole) in
     subst
     (λ (x : State).
     ((x .nframes ≤ 1024) × ZerosPast x × (sorted (stored x) ≡ true) × (1024 ≤ length (s .args .fates .now)))
-    × ((n .count-kept .result ≡ length (kept (markedBy (stored x) (n .before .taken .result)))) × (n .count-kept .result < 1024)))
+    × ((n .taken .result .left ≡ length (kept (markedBy (stored x) (n .taken .result .of)))) × (n .taken .result .left < 1024)))
     (sym (t .with-head .ensures))
-    ((good .few, good .zeros, good .order, s .pre .2), (n .count-kept .ensures, omega (arith, i .if1 .left)))
+    ((good .few, good .zeros, good .order, s .pre .2), (n .taken .ensures .1, omega (arith, i .if1 .left)))
 
 same-length : tie.Need-same-length
 same-length c = search needs
@@ -100,19 +97,18 @@ returns-2 c =
     let f = t .before in
     let x = f .before in
     let i = x .before in
-    let n = i .before in
-    let m = n .before in
+    let m = i .before .before in
     let k = m .before in
     let s = k .before in
     let a = s .args in
     let q : Pass = storing s in
     let ls : List Frame = kept (overlapMarks q) in
-    let room : length (Append.stored q .after .frames) ≤ 1024 = omega (arith, stored-count q, left n, i .if1 .left) in
+    let room : length (Append.stored q .after .frames) ≤ 1024 = omega (arith, stored-count q, left m, i .if1 .left) in
     let res = store-result (passAt (a .s) (a .h) (a .g)) (s .pre .1) room in
     let nine = x .step-nine .ensures (q .buffer) ls (headed k) in
     let new = f .stored-as .ensures ∙ ap (λ (h : Head). storedAs (h .last) (a .g)) nine in
     let under = t .with-head .ensures ∙ ap (underHead (a .s)) nine in
-    let marks = (λ j. markedBy (stored (under j)) (m .taken .result)) ∙ marked m in
+    let marks = (λ j. markedBy (stored (under j)) (m .taken .result .of)) ∙ marked m in
     let put = p .put-in .ensures .0 ∙ (λ j. leaving (under j) (insertSorted (new j) (kept (marks j))) (marks j)) in
     answered (a .s) (a .fates .now) (done (Append.stored q)) res put (p .put-in .ensures .1 ∙ ap (λ (ms : List Marked). linesThen ms (a .fates .now)) marks)
 
@@ -122,7 +118,6 @@ store-frame-spec =
     (tie.spec
     need-track-requires
     taken-requires
-    count-kept-requires
     refuse-requires
     returns
     step-nine-requires
