@@ -92,7 +92,7 @@ fn good_frame(f: Frame, tracks: usize, last: u32) -> bool
     numbers & times & good_duration(f.duration)
 }
 
-fn zero_frame(f: Frame) -> bool
+fn is_zero_frame(f: Frame) -> bool
     ensures { λ r. ⌜ r ≡ isZeroFrame f ⌝ }
 {
     let numbers = (f.duration == 0) & ((f.number == 0) & (same_int(f.pts, 0) & same_int(f.dts, 0)));
@@ -125,7 +125,7 @@ fn good_track(t: Track) -> bool
     zero_three(t)
 }
 
-fn zero_track(t: Track) -> bool
+fn is_zero_track(t: Track) -> bool
     ensures { λ r. ⌜ r ≡ isZeroTrack t ⌝ }
 {
     let numbers = (t.duration == 0) & (same_int(t.dts, 0) & same_int(t.end, 0));
@@ -205,7 +205,7 @@ fn track_place(t: Track, used: bool) -> bool
     if used {
         return good_track(t);
     }
-    zero_track(t)
+    is_zero_track(t)
 }
 
 fn tracks_placed(s: State) -> bool
@@ -232,7 +232,7 @@ fn frame_place(previous: Frame, f: Frame, used: bool, tracks: usize, last: u32) 
     if used {
         return store::frame_before(previous, f) & good_frame(f, tracks, last);
     }
-    zero_frame(f)
+    is_zero_frame(f)
 }
 
 fn number_of(f: Frame) -> u64

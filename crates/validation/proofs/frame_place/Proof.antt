@@ -17,11 +17,11 @@ returns c =
     let used : b .before .before .args .used ≡ true = b .before .if1 .taken in
     rw (used, b .frame-before .ensures, c .good-frame .ensures)
 
-zero-frame-requires : tie.Need-zero-frame-requires
-zero-frame-requires c κs = search needs
+is-zero-frame-requires : tie.Need-is-zero-frame-requires
+is-zero-frame-requires c κs = search needs
 
 returns-2 : tie.Need-returns-2
-returns-2 c = let past : c .before .before .args .used ≡ false = c .before .if1 .left in rw past (c .zero-frame .ensures)
+returns-2 c = let past : c .before .before .args .used ≡ false = c .before .if1 .left in rw past (c .is-zero-frame .ensures)
 
 pub frame-place-spec : {M : Type 1} → statement M
-frame-place-spec = tie.close (tie.spec frame-before-requires good-frame-requires returns zero-frame-requires returns-2)
+frame-place-spec = tie.close (tie.spec frame-before-requires good-frame-requires returns is-zero-frame-requires returns-2)

@@ -4,8 +4,8 @@ use borrow.Author.Needs.{needs}
 use lib.IntN.{pos}
 use Rattle.laws.proofs.WordLaws.{told}
 use Rattle.seconds.specs.Seconds.{sameInt}
-use Rattle.validation.proofs.zero_track.Statement.{statement}
-use Rattle.validation.proofs.zero_track.Tie as tie
+use Rattle.validation.proofs.is_zero_track.Statement.{statement}
+use Rattle.validation.proofs.is_zero_track.Tie as tie
 
 same-int-requires : tie.Need-same-int-requires
 same-int-requires c κs = search needs
@@ -21,5 +21,5 @@ returns c =
     let e : c .before .before .before .same-int2 .result ≡ sameInt (t .end) (pos 0) = told (t .end) (search needs) (λ z. sameInt z (pos 0)) (c .before .before .before .same-int2 .ensures) in
     rw (d, e)
 
-pub zero-track-spec : {M : Type 1} → statement M
-zero-track-spec = tie.close (tie.spec same-int-requires same-int-requires-2 returns)
+pub is-zero-track-spec : {M : Type 1} → statement M
+is-zero-track-spec = tie.close (tie.spec same-int-requires same-int-requires-2 returns)

@@ -4,8 +4,8 @@ use borrow.Author.Needs.{needs}
 use lib.IntN.{pos}
 use Rattle.laws.proofs.WordLaws.{told}
 use Rattle.seconds.specs.Seconds.{sameInt}
-use Rattle.validation.proofs.zero_frame.Statement.{statement}
-use Rattle.validation.proofs.zero_frame.Tie as tie
+use Rattle.validation.proofs.is_zero_frame.Statement.{statement}
+use Rattle.validation.proofs.is_zero_frame.Tie as tie
 
 same-int-requires : tie.Need-same-int-requires
 same-int-requires c κs = search needs
@@ -21,5 +21,5 @@ returns c =
     let e : c .before .before .same-int2 .result ≡ sameInt (f .dts) (pos 0) = told (f .dts) (search needs) (λ z. sameInt z (pos 0)) (c .before .before .same-int2 .ensures) in
     rw (d, e)
 
-pub zero-frame-spec : {M : Type 1} → statement M
-zero-frame-spec = tie.close (tie.spec same-int-requires same-int-requires-2 returns)
+pub is-zero-frame-spec : {M : Type 1} → statement M
+is-zero-frame-spec = tie.close (tie.spec same-int-requires same-int-requires-2 returns)
