@@ -468,14 +468,14 @@ fn head_out(c: Flat, s: State) -> Flat
     let m = s.mode;
     let mode = mode_out(m);
     let group = group_out(s.group);
-    let given = settings_out(s.settings);
+    let settings = settings_out(s.settings);
     Flat {
         tracks,
         ntracks: s.ntracks,
         mode,
         last: s.last,
         group,
-        settings: given,
+        settings,
         refusal: 0,
         count: 0,
         ..c
