@@ -1,5 +1,5 @@
 -- To lay a state flat and to read it back undo each other: `state-back` for every state, `flat-back` for every flat state whose
--- numbers are ones. Where one is none of its kind, every call is refused 1 (`spoilt-refused`).
+-- numbers are of their kind. Where one is not, every call is refused 1 (`spoilt-refused`).
 use mathlib.Core.Path.{_≡_, refl, sym, ap, ap₂, _∙_}
 use mathlib.Core.Bool.{Bool, true, false, cond, _&&_}
 use mathlib.Core.List.{List, [], _∷_, map}
@@ -129,7 +129,7 @@ track-out-back t h =
 
 -- ---- the state
 
--- the numbers of a state laid flat are ones
+-- the numbers of a state laid flat are of their kind
 pub flat-plain : (refusal count : ℕ) (s : State) → plain (flatOf refusal count s) ≡ true
 unfolding plain
 flat-plain refusal count s =
@@ -160,7 +160,7 @@ state-back refusal count s =
       settings = record { offset = s .settings .offset; start = s .settings .start; end = end i; limit = s .settings .limit };
     }
 
--- a flat state whose numbers are ones, read and laid flat again with its answer, is that flat state
+-- a flat state whose numbers are of their kind, read and laid flat again with its answer, is that flat state
 pub flat-back : (c : Flat) → plain c ≡ true → flatOf (c .refusal) (c .count) (stateIn true c) ≡ c
 unfolding plain
 flat-back c h =

@@ -1,6 +1,6 @@
 -- A state laid flat for callers in C and Rust: numbers alone, so that every bit pattern is a value. A flag is 0 or 1, the mode is 0
 -- (segments) or 1 (sequence), and a window end is a flag beside a double, zero where there is none. `flatOf` and `stateIn` undo each
--- other wherever the numbers are ones (proofs/FlatLaws.antt); where one is not, `stateIn` gives a state that every call refuses.
+-- other wherever each number is one of its kind (proofs/FlatLaws.antt); where one is not, `stateIn` gives a state that every call refuses.
 use mathlib.Core.Bool.{Bool, true, cond, _&&_}
 use mathlib.Core.List.{map}
 use Prim.Native.Nat.{ℕ}
@@ -97,7 +97,7 @@ settingsOut t =
 abbrev pub offeredIn : FlatOffered → Offered
 offeredIn f = record { track = f .track; flagged = flagIn (f .flagged); duration = f .duration; pts = f .pts; dts = f .dts }
 
--- ---- the numbers of a flat state are ones
+-- ---- whether each number of a flat state is one of its kind
 
 abbrev pub plainFrame : FlatFrame → Bool
 plainFrame f = isFlag (f .flagged)

@@ -328,7 +328,7 @@ fn offered_in(f: FlatOffered) -> Offered
     }
 }
 
-// ---- the numbers of a flat state are ones
+// ---- whether each number of a flat state is one of its kind
 
 fn plain_track(t: FlatTrack) -> bool
     ensures { λ r. ⌜ r ≡ plainTrack t ⌝ }
@@ -370,7 +370,7 @@ fn plain_head(c: Flat) -> bool
 
 // ---- the state
 
-// The count of tracks of a flat state whose numbers are ones; else none, so that the state is not well-formed.
+// The count of tracks of a flat state whose numbers are all of their kind; else none, so that the state is not well-formed.
 fn count_in(ok: bool, n: usize) -> usize
     ensures { λ r. ⌜ r ≡ cond ok n 0 ⌝ }
 {
@@ -380,7 +380,7 @@ fn count_in(ok: bool, n: usize) -> usize
     0
 }
 
-// A flat state read, for a call whose own numbers are ones where `told`.
+// A flat state read, for a call whose own numbers are of their kind where `told`.
 fn state_in(c: Flat, told: bool) -> State
     ensures { λ r. ⌜ r ≡ stateIn told c ⌝ }
 {
