@@ -47,20 +47,6 @@ array-read-ends-track c = search needs
 ends-track-requires : tie.Need-ends-track-requires Inv-loop μ-loop
 ends-track-requires c κs = search needs
 
-shown-at-requires : tie.Need-shown-at-requires Inv-loop μ-loop
-shown-at-requires c κs = search needs
-
-returns : tie.Need-returns Inv-loop μ-loop
-returns c =
-    let t = c .before in
-    let k = t .before in
-    let p = k .before .before in
-    let n = p .before .before in
-    let d = n .before in
-    let b = d .before in
-    let here = loss-here (b .args .t1) (b .pre) (b .args .t2) (d .loop .i) (n .loop-test .taken) (p .place .result) (p .place .ensures .0) (sym (k .ends-track .ensures) ∙ t .if1 .taken) in
-    ap boundIn (c .shown-at .ensures) ∙ sym here ∙ d .loop .inv .2
-
 add-i : tie.Need-add-i Inv-loop μ-loop
 add-i c = search needs
 
@@ -76,6 +62,20 @@ loop-again c =
     let b = d .before in
     let later = loss-later (b .args .t1) (b .pre) (b .args .t2) (d .loop .i) (n .loop-test .taken) (p .place .result) (p .place .ensures .0) (sym (k .ends-track .ensures) ∙ c .if1 .left) in
     (search needs, d .loop .inv .1, sym later ∙ d .loop .inv .2)
+
+shown-at-requires : tie.Need-shown-at-requires Inv-loop μ-loop
+shown-at-requires c κs = search needs
+
+returns : tie.Need-returns Inv-loop μ-loop
+returns c =
+    let t = c .before in
+    let k = t .before in
+    let p = k .before .before in
+    let n = p .before .before in
+    let d = n .before in
+    let b = d .before in
+    let here = loss-here (b .args .t1) (b .pre) (b .args .t2) (d .loop .i) (n .loop-test .taken) (p .place .result) (p .place .ensures .0) (sym (k .ends-track .ensures) ∙ t .if1 .taken) in
+    ap boundIn (c .shown-at .ensures) ∙ sym here ∙ d .loop .inv .2
 
 never-requires : tie.Need-never-requires Inv-loop μ-loop
 never-requires c κs = search needs
