@@ -20,8 +20,9 @@ use Rattle.buffer_laws.proofs.AppendLaws.{last-from, last-pass-good}
 use Rattle.buffer_laws.proofs.GoodLaws.{Good, good-facts}
 use Rattle.buffer_laws.proofs.LayoutLaws.{laid-out, ill-formed-refused, on-well-formed, state-back, well-formed-good}
 use Rattle.store.specs.Marks.{stored}
-use Rattle.append.specs.Heads.{headOf, headIn, HasTrack, settledResult, passAt, Ready}
-use Rattle.append.proofs.HeadLaws.{head-back, good-head}
+use Rattle.heads.specs.Heads.{headOf, headIn, HasTrack}
+use Rattle.append.specs.Settled.{settledResult, passAt, Ready}
+use Rattle.heads.proofs.HeadLaws.{head-back, good-head}
 
 module _ (lent : ℕ) (f : Offered) (s : State) where
   pub refused-one : wellFormed s ≡ false → appendResult lent f s ≡ refused IllFormed

@@ -1,6 +1,3 @@
-pub mod FitLaws
-pub mod HeadLaws
-pub mod PassLaws
 pub mod SettleLaws
 pub mod StoredLaws
 pub mod AnswerLaws

@@ -16,28 +16,11 @@ use Rattle.buffer_state.specs.Buffer.{Buffer}
 use Rattle.buffer_state.specs.Layout.{stateOf}
 use Rattle.buffer_state.specs.Limits.{places}
 use Rattle.buffer_state.specs.Refusals.{refused, done}
-use Rattle.append.specs.Heads.{headOf, underHead, dropCause, dropBuffer, settledResult}
+use Rattle.heads.specs.Heads.{headOf, underHead, dropCause, dropBuffer}
+use Rattle.append.specs.Settled.{settledResult}
 use Rattle.store.specs.Marks.{holding}
 
--- ---- the cause
-
 module _ (p : Pass) where
-  pub cause-one : beforeWindow p ≡ true → 1 ≡ dropCause p
-  unfolding dropCause
-  cause-one e = rw e
-
-  pub cause-two : beforeWindow p ≡ false → pastWindow p ≡ true → 2 ≡ dropCause p
-  unfolding dropCause
-  cause-two e d = rw (e, d)
-
-  pub cause-three : beforeWindow p ≡ false → pastWindow p ≡ false → lacksRandomAccess p ≡ true → 3 ≡ dropCause p
-  unfolding dropCause
-  cause-three e d l = rw (e, d, l)
-
-  pub cause-none : beforeWindow p ≡ false → pastWindow p ≡ false → lacksRandomAccess p ≡ false → 0 ≡ dropCause p
-  unfolding dropCause
-  cause-none e d l = rw (e, d, l)
-
   -- steps 4 to 9 by the cause
   settled-drop : 1 ≤ dropCause p → settled p ≡ dropped (dropBuffer (p .buffer) (p .frame .track) (dropCause p)) (dropCause p)
   unfolding settled dropCause dropBuffer

@@ -17,9 +17,10 @@ use Rattle.buffer_laws.proofs.OrderLaws.{insert-length}
 use Rattle.store.specs.Marks as Marks
 use Rattle.store.specs.Marks.{holding}
 use Rattle.store.proofs.MarksLaws.{good-store}
-use Rattle.append.specs.declared.Head.{Head}
-use Rattle.append.specs.Heads.{headOf, HasTrack, passAt, Ready}
-use Rattle.append.proofs.HeadLaws.{head-back}
+use Rattle.heads.specs.declared.Head.{Head}
+use Rattle.heads.specs.Heads.{headOf, HasTrack}
+use Rattle.append.specs.Settled.{passAt, Ready}
+use Rattle.heads.proofs.HeadLaws.{head-back}
 
 -- ---- the store of a well-formed state
 

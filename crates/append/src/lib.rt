@@ -1,398 +1,33 @@
-// Appending one frame. Steps 1 to 6 work on the head of the state, which is all but its frames; steps 7 and 8 mark stored frames,
-// and nothing is written before refusal 8 is decided. A promise on a head is made of every buffer b that has it: h ≡ headOf b.
+// Appending one frame. Steps 1 to 6 work on the head of the state (the crate heads); steps 7 and 8 find the causes by which stored frames
+// go, and nothing is written before refusal 8 is decided.
 ghost use mathlib.Core.Path.{_≡_};
-ghost use mathlib.Core.Bool.{true, _&&_, _||_, cond};
-ghost use mathlib.Core.List.{List};
-ghost use Prim.Native.Nat.{_+_, _*_, _^_, _≤_, _<_};
-ghost use lib.IntN.{pos, _+ℤ_, _-ℤ_, natAbs};
+ghost use mathlib.Core.Bool.{true, _&&_, cond};
+ghost use Prim.Native.Nat.{_≤_, _<_};
 ghost use lib.ListN.{length};
 ghost use lib.Dec.{leb};
-ghost use lib.Signed.{ltZ, mag};
-ghost use Rattle.buffer_state.specs.declared.Frame.{Frame};
 ghost use Rattle.buffer_state.specs.Answers.{counted, listAfter, appendResult};
-ghost use Rattle.buffer_state.specs.Append.{withOffset, stepOne, stepTwo, endOffered, fits, passOf, regrouped, breaks, above, dropped, between, overlapped, overlapMarks, raised, storedAs, followed, stepNine, offerable};
-ghost use Rattle.buffer_state.specs.Buffer.{Buffer, isSequence, trackOf, withTrack, withNeed, withEnd};
-ghost use Rattle.buffer_state.specs.Limits.{offeredTime, resultTime, lastNumber};
+ghost use Rattle.buffer_state.specs.Append.{between, overlapped, overlapMarks, offerable};
+ghost use Rattle.buffer_state.specs.Limits.{offeredTime, resultTime};
 ghost use Rattle.buffer_state.specs.Store.{markWhere, walk, kept, insertSorted};
-ghost use Rattle.buffer_state.specs.WellFormed.{goodTrack, sorted};
+ghost use Rattle.buffer_state.specs.WellFormed.{sorted};
 ghost use Rattle.store.specs.Marks.{stored, ZerosPast, markedBy, leaving, linesThen};
-ghost use Rattle.append.specs.Heads.{headOf, headIn, underHead, GoodHead, HasTrack, passedAs, deciding, dropCause, settledResult, passAt, dropBuffer, nextHead, groupHead, Ready};
+ghost use Rattle.heads.specs.Heads.{dropCause};
+ghost use Rattle.append.specs.Settled.{settledResult, passAt, Ready};
 use buffer_state::Count;
 use buffer_state::Counted;
 use buffer_state::Frame;
-use buffer_state::Group;
-use buffer_state::Mode;
 use buffer_state::Offered;
 use buffer_state::Refusal;
-use buffer_state::Setting;
-use buffer_state::Settings;
 use buffer_state::State;
 use buffer_state::Track;
-use buffer_state::WindowEnd;
+use heads::Head;
+use heads::Passed;
 
 const LAST_NUMBER: u32 = 4294967295;
 
 const PLACES: usize = 1024; // in the store, and lines that a lent fate list needs
 
-// All of a state but its frames.
-struct Head {
-    tracks: [Track; 4],
-    ntracks: usize,
-    mode: Mode,
-    group: Group,
-    last: u32,
-    settings: Settings,
-}
-
-// A pass: the head after step 1, the frame after step 2, and whether they are inside the result limits.
-struct Passed {
-    head: Head,
-    frame: Offered,
-    fits: bool,
-}
-
-// The head of the state.
-fn head_of(s: State) -> Head
-    ensures { λ r. ⌜ r ≡ headIn s ⌝ }
-{
-    let tracks = s.tracks;
-    let mode = s.mode;
-    let group = s.group;
-    let settings = s.settings;
-    Head {
-        tracks: tracks,
-        ntracks: s.ntracks,
-        mode: mode,
-        group: group,
-        last: s.last,
-        settings: settings,
-    }
-}
-
-// The state's frames under another head.
-fn with_head(s: State, h: Head) -> State
-    ensures { λ r. ⌜ r ≡ underHead s h ⌝ }
-{
-    let tracks = h.tracks;
-    let mode = h.mode;
-    let group = h.group;
-    let settings = h.settings;
-    State {
-        tracks: tracks,
-        ntracks: h.ntracks,
-        mode: mode,
-        group: group,
-        last: h.last,
-        settings: settings,
-        ..s
-    }
-}
-
-// ---- one track
-
-// Tracks are numbered from 1.
-fn track_of(h: Head, n: u8) -> Track
-    requires { ⌜ HasTrack h n ⌝ }
-    ensures { λ r. ⌜ ((b : Buffer) → h ≡ headOf b → r ≡ trackOf b n) ⌝ }
-{
-    let i = n as usize - 1;
-    let t = h.tracks[i];
-    t
-}
-
-fn with_track(h: Head, n: u8, t: Track) -> Head
-    requires { ⌜ HasTrack h n ⌝ }
-    ensures { λ r. ⌜ ((b : Buffer) → h ≡ headOf b → r ≡ headOf (withTrack b n t)) ⌝ }
-{
-    let mut out = h;
-    let i = n as usize - 1;
-    out.tracks[i] = t;
-    out
-}
-
-// Need-random-access on or off for one track.
-fn need_track(h: Head, n: u8, on: bool) -> Head
-    requires { ⌜ HasTrack h n ⌝ }
-    ensures { λ r. ⌜ ((b : Buffer) → h ≡ headOf b → r ≡ headOf (withTrack b n (withNeed on (trackOf b n)))) ⌝ }
-{
-    let t = track_of(h, n);
-    with_track(h, n, tracks::with_need(t, on))
-}
-
-// ---- step 1
-
-// The double kept is one division, even where z was the offset already.
-fn with_offset(s: Settings, z: i64) -> Settings
-    requires { ⌜ natAbs z ≤ 2 ^ 53 ⌝ }
-    ensures { λ r. ⌜ r ≡ withOffset s z ⌝ }
-{
-    let x = seconds::seconds_of(z);
-    let offset = Setting {
-        seconds: x,
-        micros: z,
-    };
-    let start = s.start;
-    let end = s.end;
-    Settings {
-        offset: offset,
-        start: start,
-        end: end,
-        limit: s.limit,
-    }
-}
-
-// The offset that brings P to the group start.
-fn offset_to(start: i64, pts: i64) -> i64
-    requires { ⌜ (resultTime start ≡ true) × (offeredTime pts ≡ true) ⌝ }
-    ensures { λ r. ⌜ r ≡ start -ℤ pts ⌝ }
-{
-    start - pts
-}
-
-// Sequence mode with group start set.
-fn begins(h: Head) -> bool
-    ensures { λ r. ⌜ r ≡ (isSequence (h .mode) && h .group .begun) ⌝ }
-{
-    let m = h.mode;
-    let g = h.group;
-    tracks::is_sequence(m) & g.begun
-}
-
-// Offset = group start - P as offered; group end = group start; need-random-access on for all tracks; group start unset.
-fn step_one(h: Head, f: Offered) -> Head
-    requires { ⌜ GoodHead h × (offerable f ≡ true) ⌝ }
-    ensures { λ r. ⌜ ((b : Buffer) → h ≡ headOf b → r ≡ headOf (stepOne b f)) ⌝ }
-{
-    if !begins(h) {
-        return h;
-    }
-    let old = h.tracks;
-    let n = h.ntracks;
-    let mode = h.mode;
-    let g = h.group;
-    let kept = h.settings;
-    let tracks = tracks::need_all(old, n, false);
-    let settings = with_offset(kept, offset_to(g.start, f.pts));
-    let group = Group {
-        begun: false,
-        start: 0,
-        end: g.start,
-    };
-    Head {
-        tracks: tracks,
-        ntracks: n,
-        mode: mode,
-        group: group,
-        last: h.last,
-        settings: settings,
-    }
-}
-
-// ---- step 2
-
-// A time as offered, with the offset added.
-fn plus(z: i64, offset: i64) -> i64
-    requires { ⌜ (offeredTime z ≡ true) × (mag offset ≤ 6000000000000) ⌝ }
-    ensures { λ r. ⌜ r ≡ z +ℤ offset ⌝ }
-{
-    z + offset
-}
-
-fn step_two(h: Head, f: Offered) -> Offered
-    requires { ⌜ (mag (h .settings .offset .micros) ≤ 6000000000000) × (offerable f ≡ true) ⌝ }
-    ensures { λ r. ⌜ ((b : Buffer) → h ≡ headOf b → r ≡ stepTwo b f) ⌝ }
-{
-    let s = h.settings;
-    let o = s.offset;
-    let offset = o.micros;
-    Offered {
-        track: f.track,
-        flagged: f.flagged,
-        duration: f.duration,
-        pts: plus(f.pts, offset),
-        dts: plus(f.dts, offset),
-    }
-}
-
-// ---- refusal 7
-
-// The frame as it is stored, with its number.
-fn stored_as(n: u32, f: Offered) -> Frame
-    ensures { λ r. ⌜ r ≡ storedAs n f ⌝ }
-{
-    let pts = f.pts;
-    let dts = f.dts;
-    Frame {
-        track: f.track,
-        flagged: f.flagged,
-        duration: f.duration,
-        number: n,
-        pts: pts,
-        dts: dts,
-    }
-}
-
-// The end of the frame, which its number does not bear on.
-fn end_offered(f: Offered) -> i64
-    requires { ⌜ resultTime (f .pts) ≡ true ⌝ }
-    ensures { λ r. ⌜ r ≡ endOffered f ⌝ }
-{
-    validation::end_of(stored_as(0, f))
-}
-
-// Offset, P, D and frame end inside the result limits. P is asked first, so that the end can be added up.
-fn fits(h: Head, g: Offered) -> bool
-    ensures { λ r. ⌜ ((b : Buffer) → h ≡ headOf b → r ≡ fits (record { buffer = b; frame = g })) ⌝ }
-{
-    if !validation::result_time(g.pts) {
-        return false;
-    }
-    let s = h.settings;
-    let o = s.offset;
-    let times = validation::result_time(o.micros) & validation::result_time(g.dts);
-    times & validation::result_time(end_offered(g))
-}
-
-// Steps 1 and 2, and refusal 7's answer.
-fn pass(h: Head, f: Offered) -> Passed
-    requires { ⌜ GoodHead h × (offerable f ≡ true) ⌝ }
-    ensures { λ r. ⌜ ((b : Buffer) → h ≡ headOf b → r ≡ passedAs (passOf b f)) ⌝ }
-{
-    let g = step_one(h, f);
-    let k = step_two(g, f);
-    Passed {
-        head: g,
-        frame: k,
-        fits: fits(g, k),
-    }
-}
-
-// ---- step 3
-
-// The last decode time, and twice the last duration after it.
-fn latest(t: Track) -> i64
-    requires { ⌜ goodTrack t ≡ true ⌝ }
-    ensures { λ r. ⌜ r ≡ t .dts +ℤ pos (2 * t .duration) ⌝ }
-{
-    let d = t.dts;
-    let n = 2 * (t.duration as u64);
-    d + n as i64
-}
-
-// D is below the last decode time, or exceeds it by more than twice the last duration.
-fn is_break(t: Track, dts: i64) -> bool
-    requires { ⌜ goodTrack t ≡ true ⌝ }
-    ensures { λ r. ⌜ r ≡ (t .known && (ltZ dts (t .dts) || ltZ (t .dts +ℤ pos (2 * t .duration)) dts)) ⌝ }
-{
-    if !t.known {
-        return false;
-    }
-    validation::below(dts, t.dts) | validation::below(latest(t), dts)
-}
-
-fn breaks(h: Head, g: Offered) -> bool
-    requires { ⌜ GoodHead h × HasTrack h (g .track) ⌝ }
-    ensures { λ r. ⌜ ((b : Buffer) → h ≡ headOf b → r ≡ breaks (record { buffer = b; frame = g })) ⌝ }
-{
-    is_break(track_of(h, g.track), g.dts)
-}
-
-// After a break: the group moved, the three unset and need-random-access on for all tracks.
-fn regrouped(h: Head, p: i64) -> Head
-    requires { ⌜ h .ntracks ≤ 4 ⌝ }
-    ensures { λ r. ⌜ ((b : Buffer) → h ≡ headOf b → r ≡ headOf (regrouped b p)) ⌝ }
-{
-    let old = h.tracks;
-    let n = h.ntracks;
-    let mode = h.mode;
-    let g = h.group;
-    let settings = h.settings;
-    let tracks = tracks::need_all(old, n, true);
-    let group = tracks::regroup(mode, g, p);
-    Head {
-        tracks: tracks,
-        ntracks: n,
-        mode: mode,
-        group: group,
-        last: h.last,
-        settings: settings,
-    }
-}
-
-// Both passes: a second begins again at 1 with the frame as offered.
-fn last_pass(h: Head, f: Offered) -> Passed
-    requires { ⌜ GoodHead h × (offerable f ≡ true) × HasTrack h (f .track) ⌝ }
-    ensures { λ r. ⌜ ((b : Buffer) → h ≡ headOf b → r ≡ passedAs (deciding b f)) ⌝ }
-{
-    let p = pass(h, f);
-    if !p.fits {
-        return p;
-    }
-    let g = p.head;
-    let k = p.frame;
-    if !breaks(g, k) {
-        return p;
-    }
-    let again = f;
-    let redone = pass(regrouped(g, k.pts), again);
-    redone
-}
-
-// ---- steps 4 to 6
-
-// Frame end above window end, where there is one.
-fn past_window(end: WindowEnd, limit: i64, e: i64) -> bool
-    ensures { λ r. ⌜ r ≡ above end limit e ⌝ }
-{
-    match end {
-        WindowEnd::Unbounded => false,
-        WindowEnd::At(x) => validation::below(limit, e),
-    }
-}
-
-// The cause by which the frame is dropped, 0 where it is stored.
-fn drop_cause(h: Head, g: Offered) -> u8
-    requires { ⌜ HasTrack h (g .track) × (resultTime (g .pts) ≡ true) ⌝ }
-    ensures { λ r. ⌜ ((b : Buffer) → h ≡ headOf b → r ≡ dropCause (record { buffer = b; frame = g })) ⌝ }
-{
-    let s = h.settings;
-    let start = s.start;
-    let end = s.end;
-    if validation::below(g.pts, start.micros) {
-        return 1;
-    }
-    if past_window(end, s.limit, end_offered(g)) {
-        return 2;
-    }
-    let t = track_of(h, g.track);
-    if t.need & !g.flagged {
-        return 3;
-    }
-    0
-}
-
-// The next number is given.
-fn numbered(h: Head) -> Head
-    requires { ⌜ h .last < lastNumber ⌝ }
-    ensures { λ r. ⌜ r ≡ nextHead h ⌝ }
-{
-    Head {
-        last: h.last + 1,
-        ..h
-    }
-}
-
-// Causes 1 and 2 turn need-random-access on for the frame's track.
-fn dropped_head(h: Head, n: u8, cause: u8) -> Head
-    requires { ⌜ HasTrack h n × (h .last < lastNumber) ⌝ }
-    ensures { λ r. ⌜ ((b : Buffer) → h ≡ headOf b → r ≡ headOf (dropped (dropBuffer b n cause) cause .after)) ⌝ }
-{
-    let k = numbered(h);
-    if cause == 3 {
-        return k;
-    }
-    need_track(k, n, true)
-}
+// ---- a frame that is dropped
 
 // The frame is dropped: its line is the only one.
 fn drop_frame(s: State, h: Head, g: Offered, cause: u8, fates: &mut [[u32; 2]]) -> Counted
@@ -400,17 +35,17 @@ fn drop_frame(s: State, h: Head, g: Offered, cause: u8, fates: &mut [[u32; 2]]) 
     ensures { λ r. ⌜ r ≡ counted s (settledResult (passAt s h g)) ⌝ }
     ensures { λ r. ⌜ now (fates .exit) ≡ listAfter (settledResult (passAt s h g)) (now (fates .entry)) ⌝ }
 {
-    let t = dropped_head(h, g.track, cause);
+    let t = heads::dropped_head(h, g.track, cause);
     let line = [t.last, store::wide(cause)];
     fates[0] = line;
-    let left = with_head(s, t);
+    let left = heads::with_head(s, t);
     Counted {
         answer: Count::Done(1),
         state: left,
     }
 }
 
-// ---- step 7
+// ---- steps 7 and 8
 
 // From a up to but not including b.
 fn is_between(a: i64, b: i64, z: i64) -> bool
@@ -427,7 +62,7 @@ fn overlaps(t: Track, f: Offered, g: Frame) -> bool
     if g.track != f.track {
         return false;
     }
-    let e = end_offered(f);
+    let e = heads::end_offered(f);
     if !t.known {
         return is_between(f.pts, e, g.pts);
     }
@@ -482,84 +117,17 @@ fn overlap_causes(s: State, t: Track, f: Offered) -> Causes
     }
 }
 
-// ---- step 9
-
-fn raised(a: i64, b: i64) -> i64
-    ensures { λ r. ⌜ r ≡ raised a b ⌝ }
-{
-    if validation::below(a, b) {
-        return b;
-    }
-    a
-}
-
-// Highest end raised, or set where it is unset.
-fn highest(t: Track, e: i64) -> i64
-    ensures { λ r. ⌜ r ≡ cond (t .known) (raised (t .end) e) e ⌝ }
-{
-    if t.known {
-        return raised(t.end, e);
-    }
-    e
-}
-
-// The track after the frame.
-fn followed(t: Track, f: Offered) -> Track
-    requires { ⌜ resultTime (f .pts) ≡ true ⌝ }
-    ensures { λ r. ⌜ r ≡ followed t f ⌝ }
-{
-    let dts = f.dts;
-    let end = highest(t, end_offered(f));
-    Track {
-        kind: t.kind,
-        known: true,
-        need: t.need,
-        duration: f.duration,
-        dts: dts,
-        end: end,
-    }
-}
-
-fn group_raised(g: Group, e: i64) -> Group
-    ensures { λ r. ⌜ r ≡ withEnd g (raised (g .end) e) ⌝ }
-{
-    let start = g.start;
-    let end = raised(g.end, e);
-    Group {
-        begun: g.begun,
-        start: start,
-        end: end,
-    }
-}
-
-fn with_group(h: Head, g: Group) -> Head
-    ensures { λ r. ⌜ r ≡ groupHead h g ⌝ }
-{
-    Head { group: g, ..h }
-}
-
-fn step_nine(h: Head, f: Offered) -> Head
-    requires { ⌜ HasTrack h (f .track) × (resultTime (f .pts) ≡ true) × (h .last < lastNumber) ⌝ }
-    ensures { λ r. ⌜ ((b : Buffer) (left : List Frame) → h ≡ headOf b → r ≡ headOf (stepNine (record { buffer = b; frame = f }) left)) ⌝ }
-{
-    let n = f.track;
-    let t = followed(track_of(h, n), f);
-    let k = numbered(h);
-    let g = k.group;
-    let group = group_raised(g, end_offered(f));
-    let m = with_group(k, group);
-    with_track(m, n, t)
-}
-
 // Steps 7 and 8 for the frame's own track.
 fn taken(s: State, h: Head, g: Offered) -> Causes
     requires { ⌜ Ready s h g ⌝ }
     ensures { λ r. ⌜ markedBy (stored s) (r .of) ≡ overlapMarks (passAt s h g) ⌝ }
     ensures { λ r. ⌜ r .left ≡ length (kept (markedBy (stored s) (r .of))) ⌝ }
 {
-    let t = track_of(h, g.track);
+    let t = heads::track_of(h, g.track);
     overlap_causes(s, t, g)
 }
+
+// ---- a frame that is stored
 
 // The frame takes its place among the stored frames that have no cause. Where none has one, the insertion is all.
 fn put_in(s: State, f: Frame, c: Causes, fates: &mut [[u32; 2]]) -> Counted
@@ -592,14 +160,14 @@ fn store_frame(s: State, h: Head, g: Offered, fates: &mut [[u32; 2]]) -> Counted
     ensures { λ r. ⌜ r ≡ counted s (settledResult (passAt s h g)) ⌝ }
     ensures { λ r. ⌜ now (fates .exit) ≡ listAfter (settledResult (passAt s h g)) (now (fates .entry)) ⌝ }
 {
-    let k = need_track(h, g.track, false);
+    let k = heads::need_track(h, g.track, false);
     let c = taken(s, k, g);
     if PLACES <= c.left {
         return store::refuse(s, Refusal::Full);
     }
-    let nine = step_nine(k, g);
-    let f = stored_as(nine.last, g);
-    let t = with_head(s, nine);
+    let nine = heads::step_nine(k, g);
+    let f = heads::stored_as(nine.last, g);
+    let t = heads::with_head(s, nine);
     put_in(t, f, c, fates)
 }
 
@@ -631,7 +199,7 @@ fn settle(s: State, p: Passed, fates: &mut [[u32; 2]]) -> Counted
 {
     let h = p.head;
     let g = p.frame;
-    let cause = drop_cause(h, g);
+    let cause = heads::drop_cause(h, g);
     if cause == 0 {
         return store_frame(s, h, g, fates);
     }
@@ -658,8 +226,8 @@ pub fn append(s: State, f: Offered, fates: &mut [[u32; 2]]) -> Counted
     if s.last == LAST_NUMBER {
         return store::refuse(s, Refusal::LastNumber);
     }
-    let h = head_of(s);
-    let p = last_pass(h, f);
+    let h = heads::head_of(s);
+    let p = heads::last_pass(h, f);
     if !p.fits {
         return store::refuse(s, Refusal::ResultLimits);
     }

@@ -13,11 +13,12 @@ use Rattle.buffer_state.specs.Layout.{bufferOf, wellFormed}
 use Rattle.buffer_state.specs.Limits.{lastNumber}
 use Rattle.buffer_state.specs.Refusals.{refused}
 use Rattle.buffer_laws.proofs.AnswerLaws.{answered}
-use Rattle.append.specs.declared.Passed.{Passed}
-use Rattle.append.specs.Heads.{GoodHead, HasTrack, passedAs, deciding, passAt, settledResult, Ready}
+use Rattle.heads.specs.declared.Passed.{Passed}
+use Rattle.heads.specs.Heads.{GoodHead, HasTrack, passedAs, deciding}
+use Rattle.append.specs.Settled.{passAt, settledResult, Ready}
 use Rattle.append.proofs.AnswerLaws.{refused-one, refused-two, refused-three, refused-four, refused-nine, refused-seven, goes-on, state-good, state-track, last-pass-back, last-pass-ready}
-use Rattle.append.proofs.HeadLaws.{good-head, state-head}
-use Rattle.append.proofs.PassLaws.{decides, decides-last}
+use Rattle.heads.proofs.HeadLaws.{good-head, state-head}
+use Rattle.heads.proofs.PassLaws.{decides, decides-last}
 use Rattle.append.proofs.append.Statement.{statement}
 use Rattle.append.proofs.append.Tie as tie
 

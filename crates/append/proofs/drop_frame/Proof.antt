@@ -9,7 +9,8 @@ use Rattle.buffer_state.specs.Append.{Outcome, dropped}
 use Rattle.buffer_state.specs.Refusals.{done}
 use Rattle.buffer_laws.proofs.AnswerLaws.{answered}
 use Rattle.store.specs.Marks.{stored}
-use Rattle.append.specs.Heads.{passAt, dropBuffer, underHead}
+use Rattle.heads.specs.Heads.{dropBuffer, underHead}
+use Rattle.append.specs.Settled.{passAt}
 use Rattle.append.proofs.SettleLaws.{drop-frames, drop-result, under-head, one-line}
 use Rattle.append.proofs.StoredLaws.{stored-few, held}
 use Rattle.append.proofs.drop_frame.Statement.{statement}

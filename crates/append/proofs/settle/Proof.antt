@@ -2,7 +2,8 @@
 use mathlib.Core.Path.{_≡_, sym, _∙_}
 use native.Mathlib.Omega.{arith}
 use borrow.Author.Needs.{needs}
-use Rattle.append.specs.Heads.{passAt, dropCause}
+use Rattle.heads.specs.Heads.{dropCause}
+use Rattle.append.specs.Settled.{passAt}
 use Rattle.append.proofs.settle.Statement.{statement}
 use Rattle.append.proofs.settle.Tie as tie
 

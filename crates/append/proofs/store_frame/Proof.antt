@@ -17,8 +17,9 @@ use Rattle.buffer_state.specs.WellFormed.{sorted}
 use Rattle.buffer_laws.proofs.AnswerLaws.{answered}
 use Rattle.store.specs.Marks.{stored, ZerosPast, markedBy, leaving, linesThen}
 use Rattle.store.proofs.MarksLaws.{good-store}
-use Rattle.append.specs.declared.Head.{Head}
-use Rattle.append.specs.Heads.{headOf, underHead, passAt, Ready}
+use Rattle.heads.specs.declared.Head.{Head}
+use Rattle.heads.specs.Heads.{headOf, underHead}
+use Rattle.append.specs.Settled.{passAt, Ready}
 use Rattle.append.proofs.SettleLaws.{store-full, store-result}
 use Rattle.append.proofs.StoredLaws.{needing-pass, needing-ready, stored-count}
 use Rattle.append.proofs.store_frame.Statement.{statement}

@@ -5,7 +5,7 @@ use Rattle.buffer_state.specs.Append.{overlapped, overlapMarks}
 use Rattle.buffer_state.specs.Store.{markWhere, walk}
 use Rattle.store.specs.Marks.{stored}
 use Rattle.store.proofs.MarksLaws.{good-store}
-use Rattle.append.specs.Heads.{passAt}
+use Rattle.append.specs.Settled.{passAt}
 use Rattle.append.proofs.taken.Statement.{statement}
 use Rattle.append.proofs.taken.Tie as tie
 

@@ -1,0 +1,4 @@
+pub mod FitLaws
+pub mod HeadLaws
+pub mod PassLaws
+pub mod CauseLaws

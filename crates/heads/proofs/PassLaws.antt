@@ -1,0 +1,89 @@
+-- Both passes: which one decides, and that it is good where refusal 7 does not take it.
+use mathlib.Core.Path.{_≡_, refl, sym, ap, _∙_}
+use mathlib.Core.Bool.{Bool, true, false, cond, not, _&&_, _||_}
+use mathlib.Core.List.{[]}
+use lib.ListN.{length}
+use Rattle.laws.proofs.BoolLaws.{clash, split}
+use Rattle.buffer_state.specs.declared.Offered.{Offered}
+use Rattle.buffer_state.specs.Append.{Pass, passOf, endOffered, fits, breaks, regrouped, secondPass, lastPass, leavesLimits}
+use Rattle.buffer_state.specs.Buffer.{Buffer}
+use Rattle.buffer_state.specs.Limits.{resultTime}
+use Rattle.buffer_laws.proofs.AppendLaws.{fits-facts, pass-good, first-from, regrouped-good}
+use Rattle.buffer_laws.proofs.GoodLaws.{Good}
+use Rattle.heads.specs.declared.Head.{Head}
+use Rattle.heads.specs.Heads.{headOf, headBuffer, GoodHead, HasTrack, deciding}
+use Rattle.heads.proofs.HeadLaws.{good-head, head-good}
+
+-- ---- refusal 7, in the order in which the code asks
+
+and-assoc : (a b c : Bool) → ((a && b) && c) ≡ (a && (b && c))
+and-assoc true b c = refl
+and-assoc false b c = refl
+
+late : (a b c : Bool) → b ≡ false → false ≡ (a && (b && c))
+late true b c e = rw e
+late false b c e = refl
+
+module _ (p : Pass) where
+  pub fits-not : resultTime (p .frame .pts) ≡ false → false ≡ fits p
+  unfolding fits
+  fits-not e = late (resultTime (p .buffer .settings .offset .micros)) _ (resultTime (p .frame .dts) && resultTime (endOffered (p .frame))) e
+
+  pub fits-all : resultTime (p .frame .pts) ≡ true
+      → ((resultTime (p .buffer .settings .offset .micros) && resultTime (p .frame .dts)) && resultTime (endOffered (p .frame))) ≡ fits p
+  unfolding fits
+  fits-all e = rw e (and-assoc (resultTime (p .buffer .settings .offset .micros)) _ _)
+
+-- ---- the pass that decides
+
+module _ (b : Buffer) (f : Offered) where
+  pub decides-out : fits (passOf b f) ≡ false → deciding b f ≡ passOf b f
+  unfolding deciding
+  decides-out e = rw e
+
+  pub decides-first : fits (passOf b f) ≡ true → breaks (passOf b f) ≡ false → deciding b f ≡ passOf b f
+  unfolding deciding lastPass
+  decides-first e d = rw (e, d)
+
+  pub decides-second : fits (passOf b f) ≡ true → breaks (passOf b f) ≡ true
+      → deciding b f ≡ passOf (regrouped (passOf b f .buffer) (passOf b f .frame .pts)) f
+  unfolding deciding lastPass secondPass
+  decides-second e d = rw (e, d)
+
+  -- refusal 7, by the pass that decides
+  pub decides : fits (deciding b f) ≡ not (leavesLimits b f)
+  unfolding deciding lastPass leavesLimits
+  decides = go (fits (passOf b f)) (breaks (passOf b f)) refl
+    where
+      go : (t u : Bool) → fits (passOf b f) ≡ t
+          → fits (cond t (cond u (secondPass b f) (passOf b f)) (passOf b f)) ≡ not (not t || (u && not (fits (secondPass b f))))
+      go false u e = e
+      go true false e = e
+      go true true e = split (fits (secondPass b f)) (λ d. rw d) (λ d. rw d)
+
+  pub decides-last : leavesLimits b f ≡ false → deciding b f ≡ lastPass b f
+  unfolding deciding leavesLimits
+  decides-last e = split (fits (passOf b f)) (λ t. rw t) (λ t. clash (rw t at e))
+
+-- ---- a first pass that is not refused, from a good head
+
+module _ (h : Head) (f : Offered) (g : GoodHead h) where
+  -- the frame's track is still one of the head's
+  pub first-track : HasTrack h (f .track) → HasTrack (headOf (passOf (headBuffer h []) f .buffer)) (passOf (headBuffer h []) f .frame .track)
+  first-track t =
+      let from = first-from (headBuffer h []) f in
+      let track : passOf (headBuffer h []) f .frame .track ≡ f .track = from .frame .track in
+      let width : length (passOf (headBuffer h []) f .buffer .tracks) ≡ h .ntracks = from .buffer .width ∙ ap (λ (k : Head). k .ntracks) (sym (g .laid)) in
+      rw (track, width) t
+
+  module _ (e : fits (passOf (headBuffer h []) f) ≡ true) where
+    first-good : Good (passOf (headBuffer h []) f .buffer)
+    first-good = pass-good (headBuffer h []) f (head-good h g) e
+
+    pub first-head : GoodHead (headOf (passOf (headBuffer h []) f .buffer))
+    first-head = good-head _ first-good
+
+    pub again-head : GoodHead (headOf (regrouped (passOf (headBuffer h []) f .buffer) (passOf (headBuffer h []) f .frame .pts)))
+    again-head =
+        let p = passOf (headBuffer h []) f in
+        good-head _ (regrouped-good (p .buffer) (p .frame .pts) first-good (fits-facts p e .pts))

@@ -1,0 +1,25 @@
+-- Each part as it is told.
+use mathlib.Core.Bool.{cond}
+use borrow.Author.Needs.{needs}
+use Rattle.laws.proofs.WordLaws.{told}
+use Rattle.buffer_state.specs.Buffer.{isSequence, startAtEnd, withEnd}
+use Rattle.heads.proofs.HeadLaws.{head-regrouped}
+use Rattle.heads.proofs.regrouped.Statement.{statement}
+use Rattle.heads.proofs.regrouped.Tie as tie
+
+need-all-requires : tie.Need-need-all-requires
+need-all-requires c κs = search needs
+
+regroup-requires : tie.Need-regroup-requires
+regroup-requires c κs = search needs
+
+returns : tie.Need-returns
+returns c =
+    let n = c .before in
+    let s = n .before .before .before .before in
+    let h = s .args .h in
+    let g = told (s .args .p) (s .fits .p) (λ z. cond (isSequence (h .mode)) (startAtEnd (h .group)) (withEnd (h .group) z)) (c .regroup .ensures) in
+    λ b e. head-regrouped b h e (s .args .p) (n .need-all .result) (c .regroup .result) (n .need-all .ensures) g
+
+pub regrouped-spec : {M : Type 1} → statement M
+regrouped-spec = tie.close (tie.spec need-all-requires regroup-requires returns)
