@@ -23,7 +23,7 @@ framesOf = map frameOf
 
 -- ---- marking and walking change no frame
 
-pub mark-frames : (p : Frame → Bool) (c : ℕ) (fs : List Frame) → framesOf (markWhere p c fs) ≡ fs
+mark-frames : (p : Frame → Bool) (c : ℕ) (fs : List Frame) → framesOf (markWhere p c fs) ≡ fs
 mark-frames p c [] = refl
 mark-frames p c (f ∷ fs) = ap (λ (l : List Frame). f ∷ l) (mark-frames p c fs)
 

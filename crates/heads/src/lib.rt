@@ -159,7 +159,7 @@ fn step_one(h: Head, f: Offered) -> Head
     let mode = h.mode;
     let g = h.group;
     let kept = h.settings;
-    let tracks = tracks::need_all(old, n, false);
+    let tracks = tracks::need_all(old, n);
     let settings = with_offset(kept, offset_to(g.start, f.pts));
     let group = Group {
         begun: false,
@@ -295,7 +295,7 @@ fn regrouped(h: Head, p: i64) -> Head
     let mode = h.mode;
     let g = h.group;
     let settings = h.settings;
-    let tracks = tracks::need_all(old, n, true);
+    let tracks = tracks::restart_all(old, n);
     let group = tracks::regroup(mode, g, p);
     Head {
         tracks: tracks,

@@ -248,7 +248,7 @@ fn settled(s: State, first: Instant) -> State
     }
     let old = s.tracks;
     let n = s.ntracks;
-    let restarted = tracks::need_all(old, n, true);
+    let restarted = tracks::restart_all(old, n);
     let mode = s.mode;
     let g = tracks::regroup(mode, s.group, first.micros);
     State {

@@ -83,7 +83,7 @@ pub fn abort(s: State) -> Changed
     }
     let old = s.tracks;
     let n = s.ntracks;
-    let restarted = tracks::need_all(old, n, true);
+    let restarted = tracks::restart_all(old, n);
     let m = s.mode;
     let started = group_after(m, s.group);
     let t = s.settings;

@@ -39,8 +39,8 @@ fn after(t: Track, unset: bool) -> Track
     with_need(t, true)
 }
 
-// Need-random-access on for all n tracks and, where asked, the three unset.
-pub fn need_all(ts: [Track; 4], n: usize, unset: bool) -> [Track; 4]
+// All n tracks changed.
+fn changed_all(ts: [Track; 4], n: usize, unset: bool) -> [Track; 4]
     requires { ⌜ n ≤ 4 ⌝ }
     ensures { λ r. ⌜ r ≡ map (λ t. cond unset (restarted t) (withNeed true t)) (take n ts) ++ drop n ts ⌝ }
 {
@@ -52,6 +52,22 @@ pub fn need_all(ts: [Track; 4], n: usize, unset: bool) -> [Track; 4]
         i += 1;
     }
     out
+}
+
+// Need-random-access on for all n tracks.
+pub fn need_all(ts: [Track; 4], n: usize) -> [Track; 4]
+    requires { ⌜ n ≤ 4 ⌝ }
+    ensures { λ r. ⌜ r ≡ map (withNeed true) (take n ts) ++ drop n ts ⌝ }
+{
+    changed_all(ts, n, false)
+}
+
+// Last decode time, last duration and highest end unset on all n tracks, need-random-access on for all.
+pub fn restart_all(ts: [Track; 4], n: usize) -> [Track; 4]
+    requires { ⌜ n ≤ 4 ⌝ }
+    ensures { λ r. ⌜ r ≡ map restarted (take n ts) ++ drop n ts ⌝ }
+{
+    changed_all(ts, n, true)
 }
 
 pub fn is_sequence(m: Mode) -> bool

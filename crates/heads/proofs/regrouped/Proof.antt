@@ -7,8 +7,8 @@ use Rattle.heads.proofs.HeadLaws.{head-regrouped}
 use Rattle.heads.proofs.regrouped.Statement.{statement}
 use Rattle.heads.proofs.regrouped.Tie as tie
 
-need-all-requires : tie.Need-need-all-requires
-need-all-requires c κs = search needs
+restart-all-requires : tie.Need-restart-all-requires
+restart-all-requires c κs = search needs
 
 regroup-requires : tie.Need-regroup-requires
 regroup-requires c κs = search needs
@@ -19,7 +19,7 @@ returns c =
     let s = n .before .before .before .before in
     let h = s .args .h in
     let g = told (s .args .p) (s .fits .p) (λ z. cond (isSequence (h .mode)) (startAtEnd (h .group)) (withEnd (h .group) z)) (c .regroup .ensures) in
-    λ b e. head-regrouped b h e (s .args .p) (n .need-all .result) (c .regroup .result) (n .need-all .ensures) g
+    λ b e. head-regrouped b h e (s .args .p) (n .restart-all .result) (c .regroup .result) (n .restart-all .ensures) g
 
 pub regrouped-spec : {M : Type 1} → statement M
-regrouped-spec = tie.close (tie.spec need-all-requires regroup-requires returns)
+regrouped-spec = tie.close (tie.spec restart-all-requires regroup-requires returns)

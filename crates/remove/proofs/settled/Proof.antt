@@ -11,8 +11,8 @@ use Rattle.remove.proofs.settled.Tie as tie
 returns : tie.Need-returns
 returns c = let off : c .before .before .args .first .set ≡ false = not-true _ (c .if1 .taken) in rw off
 
-need-all-requires : tie.Need-need-all-requires
-need-all-requires c κs = search needs
+restart-all-requires : tie.Need-restart-all-requires
+restart-all-requires c κs = search needs
 
 regroup-requires : tie.Need-regroup-requires
 regroup-requires c κs = search needs
@@ -26,7 +26,7 @@ returns-2 c =
     let s = a .s in
     let on : a .first .set ≡ true = not-false _ (e .if1 .left) in
     let g = told (a .first .micros) (search needs) (λ z. cond (isSequence (s .mode)) (startAtEnd (s .group)) (withEnd (s .group) z)) (k .regroup .ensures) in
-    let t = n .need-all .ensures in
+    let t = n .restart-all .ensures in
     rw on (λ j. record {
       frames = s .frames;
       nframes = s .nframes;
@@ -39,4 +39,4 @@ returns-2 c =
     })
 
 pub settled-spec : {M : Type 1} → statement M
-settled-spec = tie.close (tie.spec returns need-all-requires regroup-requires returns-2)
+settled-spec = tie.close (tie.spec returns restart-all-requires regroup-requires returns-2)

@@ -25,8 +25,8 @@ returns c =
     let w = c .before .before in
     c .refuse .ensures ∙ sym (refusing (λ (b : Buffer). done (aborted b)) (w .before .args .s) (sym (w .well-formed .ensures) ∙ not-true _ (c .before .if1 .taken)))
 
-need-all-requires : tie.Need-need-all-requires
-need-all-requires c κs =
+restart-all-requires : tie.Need-restart-all-requires
+restart-all-requires c κs =
     let e = c .before in
     few-tracks-in (e .before .before .args .s) (sym (e .before .well-formed .ensures) ∙ not-false _ (e .if1 .left))
 
@@ -49,7 +49,7 @@ returns-2 c =
     let s = e .before .before .args .s in
     let h : wellFormed s ≡ true = sym (e .before .well-formed .ensures) ∙ not-false _ (e .if1 .left) in
     c .done .ensures
-    ∙ ap accepted (aborted-state s h (n .need-all .result) (g .group-after .result) (o .open-window .result) (n .need-all .ensures) (g .group-after .ensures) (o .open-window .ensures))
+    ∙ ap accepted (aborted-state s h (n .restart-all .result) (g .group-after .result) (o .open-window .result) (n .restart-all .ensures) (g .group-after .ensures) (o .open-window .ensures))
     ∙ sym (going-on (λ (b : Buffer). done (aborted b)) s h)
 
 pub abort-spec : {M : Type 1} → statement M
@@ -59,7 +59,7 @@ abort-spec =
     well-formed-requires
     refuse-requires
     returns
-    need-all-requires
+    restart-all-requires
     group-after-requires
     open-window-requires
     done-requires

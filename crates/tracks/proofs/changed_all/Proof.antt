@@ -9,8 +9,8 @@ use Rattle.laws.proofs.ListLaws.{mappedTo, mapped-read, mapped-next}
 use Rattle.buffer_state.specs.declared.Track.{Track}
 use Rattle.buffer_state.specs.Buffer.{zeroTrack, restarted, withNeed}
 use borrow.Author.Needs.{needs}
-use Rattle.tracks.proofs.need_all.Statement.{statement}
-use Rattle.tracks.proofs.need_all.Tie as tie
+use Rattle.tracks.proofs.changed_all.Statement.{statement}
+use Rattle.tracks.proofs.changed_all.Tie as tie
 
 -- what is done to a track
 abbrev changed : Bool → Track → Track
@@ -64,8 +64,8 @@ returns c =
     let e : d .loop .i ≡ d .before .args .n = omega (arith, d .loop .inv .0, c .loop-test .left) in
     rw e at (d .loop .inv .2)
 
-pub need-all-spec : {M : Type 1} → statement M
-need-all-spec =
+pub changed-all-spec : {M : Type 1} → statement M
+changed-all-spec =
     tie.close
     (tie.spec
     Inv-loop
