@@ -4,7 +4,7 @@ ghost use mathlib.Core.Path.{_≡_};
 ghost use mathlib.Core.Bool.{true, _&&_, cond};
 ghost use Prim.Native.Nat.{_≤_, _<_};
 ghost use lib.ListN.{length};
-ghost use lib.Dec.{leb};
+ghost use lib.Dec.{leb, eqb};
 ghost use Rattle.buffer_state.specs.Answers.{counted, listAfter, appendResult};
 ghost use Rattle.buffer_state.specs.Append.{between, overlapped, overlapMarks, offerable};
 ghost use Rattle.buffer_state.specs.Limits.{offeredTime, resultTime};
@@ -85,6 +85,16 @@ struct Causes {
     left: usize,
 }
 
+// A frame counted, where it stays.
+fn stays(cause: u8) -> usize
+    ensures { λ r. ⌜ r ≡ cond (eqb cause 0) 1 0 ⌝ }
+{
+    if cause == 0 {
+        return 1;
+    }
+    0
+}
+
 // Steps 7 and 8 in one pass: a frame's cause is 4 where the new one overlaps it, and the walk goes on from the frame before.
 fn overlap_causes(s: State, t: Track, f: Offered) -> Causes
     requires { ⌜ (s .nframes ≤ 1024) × (sorted (stored s) ≡ true) × (resultTime (f .pts) ≡ true) ⌝ }
@@ -104,12 +114,8 @@ fn overlap_causes(s: State, t: Track, f: Offered) -> Causes
         causes[i] = cause;
         track = g.track;
         follows = cause != 0;
-        if cause != 0 {
-            i += 1;
-        } else {
-            left += 1;
-            i += 1;
-        }
+        left += stays(cause);
+        i += 1;
     }
     Causes {
         of: causes,

@@ -1,10 +1,11 @@
 -- What is kept and what is told, one frame more at a time.
 use mathlib.Core.Path.{_≡_, refl, sym, ap, _∙_}
-use mathlib.Core.Bool.{Bool, true, false, cond}
+use mathlib.Core.Bool.{Bool, true, false, cond, not}
 use mathlib.Core.List.{List, [], _∷_, _++_, append-nil}
 use Prim.Native.Nat.{ℕ, zero, suc, _+_, _≤_, _<_}
 use native.Mathlib.Numerals.{add-one}
 use native.Mathlib.Omega.{arith}
+use lib.Dec.{eqb}
 use lib.ListN.{length, take, drop, getD, set, length-append, length-map}
 use lib.Seq.{getD-take}
 use borrow.Author.Tests.{eq-eqb, ne-eqb}
@@ -81,13 +82,16 @@ module _ (fs : List Frame) (cs : List ℕ) (i : ℕ) (z : Frame) (h : i < length
 
 -- how many are kept, where a cause more is written
 module _ (fs : List Frame) (cs : List ℕ) (i d left : ℕ) (z : Frame) (h : i < length fs) (g : i < length cs) (e : left ≡ length (kept (take i (markedBy fs cs)))) where
-  pub left-more : d ≡ 0 → left + 1 ≡ length (kept (take (i + 1) (markedBy fs (set cs i d))))
+  pub left-next : left + cond (eqb d 0) 1 0 ≡ length (kept (take (i + 1) (markedBy fs (set cs i d))))
   unfolding kept
-  left-more q = rw (add-one i, marked-written fs cs i d z h g, kept-append, eq-eqb d 0 q) (omega (arith, e, length-append (kept (take i (markedBy fs cs))) (getD fs i z ∷ [])))
+  left-next = rw (add-one i, marked-written fs cs i d z h g, kept-append) (go (eqb d 0))
+    where
+      before : List Frame
+      before = kept (take i (markedBy fs cs))
 
-  pub left-same : (d ≡ 0 → ⊥) → left ≡ length (kept (take (i + 1) (markedBy fs (set cs i d))))
-  unfolding kept
-  left-same q = rw (add-one i, marked-written fs cs i d z h g, kept-append, ne-eqb d 0 q) (e ∙ ap length (sym (append-nil (kept (take i (markedBy fs cs))))))
+      go : (stays : Bool) → left + cond stays 1 0 ≡ length (before ++ cond (not stays) [] (getD fs i z ∷ []))
+      go true = omega (arith, e, length-append before (getD fs i z ∷ []))
+      go false = omega (arith, e, length-append before [])
 
 -- ---- a turn of a loop over the first n frames
 

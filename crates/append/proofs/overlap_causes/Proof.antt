@@ -1,6 +1,6 @@
 -- The invariant: the marks written, and those that the walk would give from here on, are the walk's; and the count is that of the frames left.
 use mathlib.Core.Path.{_≡_, refl, ap, _∙_}
-use mathlib.Core.Bool.{cond, not}
+use mathlib.Core.Bool.{Bool, true, false, cond, not}
 use mathlib.Core.List.{List}
 use Prim.Native.Nat.{ℕ, _+_, _-_, _≤_}
 use native.Mathlib.Omega.{arith}
@@ -16,7 +16,7 @@ use Rattle.buffer_state.specs.Layout.{zeroFrame}
 use Rattle.buffer_state.specs.Store.{Marked, kept}
 use Rattle.store.specs.Marks.{stored, markedBy}
 use Rattle.store.proofs.MarksLaws.{marked-all}
-use Rattle.store.proofs.TakenLaws.{left-more, left-same}
+use Rattle.store.proofs.TakenLaws.{left-next}
 use Rattle.store.proofs.WalkLaws.{Stepping, step-turn, step-end}
 use Rattle.append.proofs.overlap_causes.Statement.{statement}
 use Rattle.append.proofs.overlap_causes.Tie as tie
@@ -76,6 +76,17 @@ turned c =
 array-write-causes : tie.Need-array-write-causes Inv-loop μ-loop
 array-write-causes c = search needs
 
+stays-requires : tie.Need-stays-requires Inv-loop μ-loop
+stays-requires c κs = search needs
+
+-- the count with one frame more is at most the frames seen
+few : (b : Bool) (left i : ℕ) → left ≤ i → left + cond b 1 0 ≤ i + 1
+few true left i h = omega arith
+few false left i h = omega arith
+
+add-left : tie.Need-add-left Inv-loop μ-loop
+add-left c = let d = c .before .before .before .before .before in omega (arith, c .stays .ensures, few (eqb (c .before .walked .result) 0) (d .loop .left) (d .loop .i) (d .loop .inv .1), d .loop .inv .0, d .before .pre .0)
+
 add-i : tie.Need-add-i Inv-loop μ-loop
 add-i c = search needs
 
@@ -89,34 +100,12 @@ loop-again c =
     let d = n .before in
     let causes = d .loop .causes in (
       search needs,
-      search needs,
+      rw (c .stays .ensures) (few (eqb (w .walked .result) 0) (d .loop .left) (d .loop .i) (d .loop .inv .1)),
       length-set causes (d .loop .i) _ ∙ d .loop .inv .2,
       turned w,
-      left-same (stored (d .before .args .t1)) causes (d .loop .i) (w .walked .result) (d .loop .left) zeroFrame (omega (arith, count (d .before), n .loop-test .taken))
-          (omega (arith, d .loop .inv .2, n .loop-test .taken, d .before .pre .0)) (d .loop .inv .4) (c .if1 .taken),
-    )
-
-add-left : tie.Need-add-left Inv-loop μ-loop
-add-left c = search needs
-
-add-i-2 : tie.Need-add-i-2 Inv-loop μ-loop
-add-i-2 c = search needs
-
-loop-less-2 : tie.Need-loop-less-2 Inv-loop μ-loop
-loop-less-2 c = search needs
-
-loop-again-2 : tie.Need-loop-again-2 Inv-loop μ-loop
-loop-again-2 c =
-    let w = c .before in
-    let n = w .before .before .before in
-    let d = n .before in
-    let causes = d .loop .causes in (
-      search needs,
-      search needs,
-      length-set causes (d .loop .i) _ ∙ d .loop .inv .2,
-      turned w,
-      left-more (stored (d .before .args .t1)) causes (d .loop .i) (w .walked .result) (d .loop .left) zeroFrame (omega (arith, count (d .before), n .loop-test .taken))
-          (omega (arith, d .loop .inv .2, n .loop-test .taken, d .before .pre .0)) (d .loop .inv .4) (c .if1 .left),
+      rw (c .stays .ensures)
+          (left-next (stored (d .before .args .t1)) causes (d .loop .i) (w .walked .result) (d .loop .left) zeroFrame (omega (arith, count (d .before), n .loop-test .taken))
+          (omega (arith, d .loop .inv .2, n .loop-test .taken, d .before .pre .0)) (d .loop .inv .4)),
     )
 
 returns : tie.Need-returns Inv-loop μ-loop
@@ -141,11 +130,9 @@ overlap-causes-spec =
     overlap-cause-requires
     walked-requires
     array-write-causes
+    stays-requires
+    add-left
     add-i
     loop-less
     loop-again
-    add-left
-    add-i-2
-    loop-less-2
-    loop-again-2
     returns)
