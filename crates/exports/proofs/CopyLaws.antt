@@ -1,6 +1,6 @@
 -- Arrays converted element by element: one turn of a loop, and four elements at once.
-use mathlib.Core.Path.{_≡_, refl, sym, ap, _∙_}
-use mathlib.Core.Bool.{Bool, true, false, _&&_}
+use mathlib.Core.Path.{_≡_, sym, ap, _∙_}
+use mathlib.Core.Bool.{Bool, _&&_, and-true, and-assoc}
 use mathlib.Core.List.{List, [], _∷_, _++_, map}
 use Prim.Native.Nat.{ℕ, _+_, _<_}
 use native.Mathlib.Numerals.{add-one}
@@ -10,14 +10,6 @@ use lib.Seq.{take-suc, drop-cons}
 use Rattle.buffer_state.specs.WellFormed.{allOf}
 
 -- ---- tests
-
-pub and-true : (a : Bool) → (a && true) ≡ a
-and-true true = refl
-and-true false = refl
-
-pub and-assoc : (a b c : Bool) → ((a && b) && c) ≡ (a && (b && c))
-and-assoc true b c = refl
-and-assoc false b c = refl
 
 module _ {A : Type 0} (p : A → Bool) where
   all-snoc : (l : List A) (x : A) → allOf p (l ++ (x ∷ [])) ≡ (allOf p l && p x)

@@ -1,6 +1,6 @@
 -- Both passes: which one decides, and that it is good where refusal 7 does not take it.
 use mathlib.Core.Path.{_≡_, refl, sym, ap, _∙_}
-use mathlib.Core.Bool.{Bool, true, false, cond, not, _&&_, _||_}
+use mathlib.Core.Bool.{Bool, true, false, cond, not, _&&_, _||_, and-assoc}
 use mathlib.Core.List.{[]}
 use lib.ListN.{length}
 use Rattle.laws.proofs.BoolLaws.{clash, split}
@@ -15,10 +15,6 @@ use Rattle.heads.specs.Heads.{headOf, headBuffer, GoodHead, HasTrack, de
 use Rattle.heads.proofs.HeadLaws.{good-head, head-good}
 
 -- ---- refusal 7, in the order in which the code asks
-
-and-assoc : (a b c : Bool) → ((a && b) && c) ≡ (a && (b && c))
-and-assoc true b c = refl
-and-assoc false b c = refl
 
 late : (a b c : Bool) → b ≡ false → false ≡ (a && (b && c))
 late true b c e = rw e

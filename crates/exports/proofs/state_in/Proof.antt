@@ -1,6 +1,6 @@
 -- The invariant: the first i frames are read and tested.
 use mathlib.Core.Path.{_≡_, refl, sym, ap, _∙_}
-use mathlib.Core.Bool.{Bool, cond, _&&_}
+use mathlib.Core.Bool.{Bool, cond, _&&_, and-true}
 use mathlib.Core.List.{map}
 use Prim.Native.Nat.{_≤_, _<_, _-_}
 use native.Mathlib.Omega.{arith}
@@ -8,7 +8,7 @@ use lib.ListN.{length, take}
 use Rattle.laws.proofs.ListLaws.{mapped-length, mapped-more, all-mapped}
 use Rattle.buffer_state.specs.WellFormed.{allOf}
 use Rattle.exports.specs.Flat.{frameIn, plainFrame}
-use Rattle.exports.proofs.CopyLaws.{and-true, tested-more}
+use Rattle.exports.proofs.CopyLaws.{tested-more}
 use Rattle.exports.proofs.LoopLaws.{all-tested}
 use borrow.Author.Needs.{needs}
 use Rattle.exports.proofs.state_in.Statement.{statement}
