@@ -1,11 +1,12 @@
 /* Galumper: the frame buffer of the review console, for C and C++. Link target/staticlib/libexports.a (docs/EMBEDDING.md).
  *
- * A call takes the state by value and hands the next one back; it keeps nothing and allocates nothing. Its stack frames hold
- * states of 32 KB each: give a thread that calls it 1 MB of stack or more.
+ * The program owns a buffer, a galumper_buffer of 33 KB, and lends it to each call by its address; the call works in place. The
+ * library keeps nothing and allocates nothing.
  *
- * Any bits may be handed in. A state that is not well-formed, a flag that is neither 0 nor 1, and a mode that is neither 0 nor
- * 1 have the call refused 1. What the caller owes is that each list has the places that its length says, and that no pointer
- * is null, also where its length is 0.
+ * Any bits may be handed in. A buffer that is not well-formed, a flag that is neither 0 nor 1, and a mode that is neither 0 nor
+ * 1 have the call refused 1. What the caller owes is that no pointer is null, also where its length is 0, that each list has the
+ * places that its length says and lies outside the buffer, and that nothing else touches buffer and list during the call. Calls
+ * that take the buffer as const only read it, and may read it side by side.
  *
  * Times are whole microseconds, and doubles are seconds.
  */
@@ -25,11 +26,11 @@ extern "C" {
 /* The most tracks of a buffer. */
 #define GALUMPER_TRACKS 4
 
-/* Why a call is refused. A refused call changes nothing: it hands back the state, and leaves the lists, as they were. Where
- * several apply, the first in the order of the call's own list below is given. */
+/* Why a call is refused. A refused call changes nothing: buffer and lists stay as they were. Where several apply, the first in
+ * the order of the call's own list below is given. */
 enum galumper_refusal {
     GALUMPER_DONE = 0,          /* not refused */
-    GALUMPER_ILL_FORMED = 1,    /* the state is not well-formed */
+    GALUMPER_ILL_FORMED = 1,    /* the buffer is not well-formed */
     GALUMPER_SHORT_FATES = 2,   /* a fate list of fewer than 1,024 lines */
     GALUMPER_NO_TRACK = 3,      /* a track that the buffer does not have */
     GALUMPER_FRAME_LIMITS = 4,  /* an offered frame outside the limits */
@@ -52,30 +53,13 @@ enum galumper_cause {
     GALUMPER_REMOVED = 6        /* removed: by a removal, as it begins in the stretch that goes */
 };
 
-/* A coded frame as offered to an append. */
-typedef struct {
-    uint8_t track;     /* from 1 */
-    uint8_t flagged;   /* 1: a random access point */
-    uint32_t duration;
-    int64_t pts;       /* presentation timestamp */
-    int64_t dts;       /* decode timestamp */
-} galumper_offered;
-
-/* A stored coded frame. Its times have the timestamp offset added. */
-typedef struct {
-    uint8_t track;
-    uint8_t flagged;
-    uint32_t duration;
-    uint32_t number;   /* given from 1 in the order of the appends */
-    int64_t pts;
-    int64_t dts;
-} galumper_frame;
+/* ---- what a buffer holds */
 
 /* A track. The last decode time, the last duration and the highest end are set together, where `known`. */
 typedef struct {
-    uint8_t kind;      /* 0 video, 1 audio */
+    uint8_t kind;            /* 0 video, 1 audio */
     uint8_t known;
-    uint8_t need;      /* 1: it waits for a random access point */
+    uint8_t need;            /* 1: it waits for a random access point */
     uint32_t duration;
     int64_t dts;
     int64_t end;
@@ -102,25 +86,42 @@ typedef struct {
     int64_t limit;           /* its microseconds; 0 where there is none */
 } galumper_settings;
 
-/* A buffer: its state, and what the call that handed it out answered. Past the counts the places hold zeros. */
+/* Everything but the frames. */
 typedef struct {
-    galumper_frame frames[GALUMPER_PLACES]; /* sorted by track, decode time and number */
-    size_t nframes;
-    galumper_track tracks[GALUMPER_TRACKS]; /* track n stands at n - 1 */
+    galumper_track tracks[GALUMPER_TRACKS]; /* track n stands at n - 1; zeros past the count */
     size_t ntracks;
+    size_t nframes;
     uint32_t mode;           /* 0 segments, 1 sequence */
     uint32_t last;           /* the last frame number given */
     galumper_group group;
     galumper_settings settings;
-    uint32_t refusal;        /* the answer: 0, or an enum galumper_refusal; no call reads it */
-    size_t count;            /* the answer: how many fate lines were written; no call reads it */
-} galumper_state;
+} galumper_head;
 
-/* What a report answers: how many ranges it wrote. */
+/* A buffer. A stored coded frame has a row in `times` and one in `tags`, at the same place: `head.nframes` of them, sorted by
+ * track, decode time and number, and zeros after them. The flag is 1 for a random access point; numbers are given from 1 in the
+ * order of the appends. A buffer may be copied and kept as any struct. */
+typedef struct {
+    galumper_head head;
+    int64_t times[GALUMPER_PLACES][2]; /* presentation and decode timestamp, with the timestamp offset added */
+    uint32_t tags[GALUMPER_PLACES][4]; /* track, flag, duration, number */
+} galumper_buffer;
+
+/* ---- what a call takes and answers */
+
+/* A coded frame as offered to an append. */
+typedef struct {
+    uint32_t track;          /* from 1 */
+    uint8_t flagged;         /* 1: a random access point */
+    uint32_t duration;
+    int64_t pts;             /* presentation timestamp */
+    int64_t dts;             /* decode timestamp */
+} galumper_offered;
+
+/* What a call answers: 0 or an enum galumper_refusal, and how many lines or ranges it wrote to the lent list. */
 typedef struct {
     uint32_t refusal;
     size_t count;
-} galumper_report;
+} galumper_answer;
 
 /* What reading the settings answers. `end` is 0.0 where `bounded` is 0. */
 typedef struct {
@@ -131,42 +132,117 @@ typedef struct {
     double end;
 } galumper_reading;
 
-/* A buffer with a track for each kind: 0 video, 1 audio. Refused 11; its state is then zeros, which every call refuses. */
-galumper_state galumper_create(const uint8_t *kinds, size_t ntracks);
+/* ---- the library's functions, on a head by value and arrays that are lent; a program uses the calls below */
+
+typedef struct {
+    galumper_head head;
+    uint32_t refusal;
+    size_t count;
+} galumper_answered;
+
+galumper_answered galumper_lent_create(const uint8_t *kinds, size_t ntracks, int64_t times[GALUMPER_PLACES][2],
+                                       uint32_t tags[GALUMPER_PLACES][4]);
+galumper_answered galumper_lent_append(galumper_head head, galumper_offered frame, int64_t times[GALUMPER_PLACES][2],
+                                       uint32_t tags[GALUMPER_PLACES][4], uint32_t (*fates)[2], size_t lines);
+galumper_answered galumper_lent_remove(galumper_head head, double start, double end, int64_t times[GALUMPER_PLACES][2],
+                                       uint32_t tags[GALUMPER_PLACES][4], uint32_t (*fates)[2], size_t lines);
+galumper_answered galumper_lent_abort(galumper_head head, const int64_t times[GALUMPER_PLACES][2],
+                                      const uint32_t tags[GALUMPER_PLACES][4]);
+galumper_answered galumper_lent_set_mode(galumper_head head, const int64_t times[GALUMPER_PLACES][2],
+                                         const uint32_t tags[GALUMPER_PLACES][4], uint32_t mode);
+galumper_answered galumper_lent_set_offset(galumper_head head, const int64_t times[GALUMPER_PLACES][2],
+                                           const uint32_t tags[GALUMPER_PLACES][4], double seconds);
+galumper_answered galumper_lent_set_window_start(galumper_head head, const int64_t times[GALUMPER_PLACES][2],
+                                                 const uint32_t tags[GALUMPER_PLACES][4], double seconds);
+galumper_answered galumper_lent_set_window_end(galumper_head head, const int64_t times[GALUMPER_PLACES][2],
+                                               const uint32_t tags[GALUMPER_PLACES][4], double seconds);
+galumper_reading galumper_lent_read_settings(galumper_head head, const int64_t times[GALUMPER_PLACES][2],
+                                             const uint32_t tags[GALUMPER_PLACES][4]);
+galumper_answer galumper_lent_track_ranges(galumper_head head, const int64_t times[GALUMPER_PLACES][2],
+                                           const uint32_t tags[GALUMPER_PLACES][4], uint32_t track, int64_t (*ranges)[2],
+                                           size_t places);
+galumper_answer galumper_lent_common_ranges(galumper_head head, const int64_t times[GALUMPER_PLACES][2],
+                                            const uint32_t tags[GALUMPER_PLACES][4], int64_t (*ranges)[2], size_t places);
+
+/* Keeps the head that a function answered, unless it refused, and hands on the rest. */
+static inline galumper_answer galumper_kept(galumper_buffer *buffer, galumper_answered answered) {
+    galumper_answer answer;
+    if (answered.refusal == GALUMPER_DONE) {
+        buffer->head = answered.head;
+    }
+    answer.refusal = answered.refusal;
+    answer.count = answered.count;
+    return answer;
+}
+
+/* ---- the calls */
+
+/* Makes `buffer`, whatever it holds, an empty one with a track for each kind: 0 video, 1 audio. Refused 11. */
+static inline galumper_answer galumper_create(galumper_buffer *buffer, const uint8_t *kinds, size_t ntracks) {
+    return galumper_kept(buffer, galumper_lent_create(kinds, ntracks, buffer->times, buffer->tags));
+}
 
 /* Appends a frame. A frame that is dropped, and each stored frame that is lost, is told on a line of `fates`: its number, then
  * its cause. `count` says how many lines there are; `lines` is at least 1,024. Refused 1, 2, 3, 4, 9, 7, 8. */
-galumper_state galumper_append(galumper_state state, galumper_offered frame, uint32_t (*fates)[2], size_t lines);
+static inline galumper_answer galumper_append(galumper_buffer *buffer, galumper_offered frame, uint32_t (*fates)[2],
+                                              size_t lines) {
+    return galumper_kept(buffer, galumper_lent_append(buffer->head, frame, buffer->times, buffer->tags, fates, lines));
+}
 
 /* Removes, on each track, the frames that begin from `start` up to the first random access point at or after `end` (in seconds), and
  * the frames that depend on them; where there is no such point, or `end` is plus infinity, to the end. Fate lines are written as by an
  * append. Refused 1, 2, 5, 6. */
-galumper_state galumper_remove(galumper_state state, double start, double end, uint32_t (*fates)[2], size_t lines);
+static inline galumper_answer galumper_remove(galumper_buffer *buffer, double start, double end, uint32_t (*fates)[2],
+                                              size_t lines) {
+    return galumper_kept(buffer, galumper_lent_remove(buffer->head, start, end, buffer->times, buffer->tags, fates, lines));
+}
 
 /* Aborts: every track waits for a random access point, and the append window is open again. Refused 1. */
-galumper_state galumper_abort(galumper_state state);
+static inline galumper_answer galumper_abort(galumper_buffer *buffer) {
+    const galumper_buffer *lent = buffer;
+    return galumper_kept(buffer, galumper_lent_abort(lent->head, lent->times, lent->tags));
+}
 
 /* Sets the mode: 0 segments, 1 sequence. Refused 1. */
-galumper_state galumper_set_mode(galumper_state state, uint32_t mode);
+static inline galumper_answer galumper_set_mode(galumper_buffer *buffer, uint32_t mode) {
+    const galumper_buffer *lent = buffer;
+    return galumper_kept(buffer, galumper_lent_set_mode(lent->head, lent->times, lent->tags, mode));
+}
 
 /* Sets the timestamp offset. Refused 1, 5. */
-galumper_state galumper_set_offset(galumper_state state, double seconds);
+static inline galumper_answer galumper_set_offset(galumper_buffer *buffer, double seconds) {
+    const galumper_buffer *lent = buffer;
+    return galumper_kept(buffer, galumper_lent_set_offset(lent->head, lent->times, lent->tags, seconds));
+}
 
 /* Sets the append window start. Refused 1, 5, 6. */
-galumper_state galumper_set_window_start(galumper_state state, double seconds);
+static inline galumper_answer galumper_set_window_start(galumper_buffer *buffer, double seconds) {
+    const galumper_buffer *lent = buffer;
+    return galumper_kept(buffer, galumper_lent_set_window_start(lent->head, lent->times, lent->tags, seconds));
+}
 
 /* Sets the append window end; plus infinity makes it unbounded. Refused 1, 5, 6. */
-galumper_state galumper_set_window_end(galumper_state state, double seconds);
+static inline galumper_answer galumper_set_window_end(galumper_buffer *buffer, double seconds) {
+    const galumper_buffer *lent = buffer;
+    return galumper_kept(buffer, galumper_lent_set_window_end(lent->head, lent->times, lent->tags, seconds));
+}
 
 /* Reads the three settings, each double as it was given. Refused 1. */
-galumper_reading galumper_read_settings(galumper_state state);
+static inline galumper_reading galumper_read_settings(const galumper_buffer *buffer) {
+    return galumper_lent_read_settings(buffer->head, buffer->times, buffer->tags);
+}
 
 /* Writes the ranges that a track's frames cover, start and end each, in rising order. An instant is in one of them exactly when
  * a stored frame covers it. Refused 1, 3, 10. */
-galumper_report galumper_track_ranges(galumper_state state, uint8_t track, int64_t (*ranges)[2], size_t places);
+static inline galumper_answer galumper_track_ranges(const galumper_buffer *buffer, uint32_t track, int64_t (*ranges)[2],
+                                                    size_t places) {
+    return galumper_lent_track_ranges(buffer->head, buffer->times, buffer->tags, track, ranges, places);
+}
 
 /* Writes the ranges that are covered on every track. Refused 1, 10. */
-galumper_report galumper_common_ranges(galumper_state state, int64_t (*ranges)[2], size_t places);
+static inline galumper_answer galumper_common_ranges(const galumper_buffer *buffer, int64_t (*ranges)[2], size_t places) {
+    return galumper_lent_common_ranges(buffer->head, buffer->times, buffer->tags, ranges, places);
+}
 
 #ifdef __cplusplus
 }

@@ -16,12 +16,12 @@ use Rattle.laws.proofs.ListLaws.{take-map}
 use Rattle.buffer_state.specs.declared.Answer as Code
 use Rattle.buffer_state.specs.declared.Answer.the-variants.{Done, Refused}
 use Rattle.buffer_state.specs.declared.Changed.{Changed}
+use Rattle.buffer_state.specs.declared.Head.{Head}
 use Rattle.buffer_state.specs.declared.Mode.{Mode}
 use Rattle.buffer_state.specs.declared.Offered.{Offered}
-use Rattle.buffer_state.specs.declared.State.{State}
-use Rattle.buffer_state.specs.Answers.{changed, zeroState, createAnswer, abortAnswer, modeAnswer, offsetAnswer, windowStartAnswer, windowEndAnswer, settingsAnswer, counted, listAfter, appendResult, removeResult, rangeCount, rangesAfter, trackRangesResult, commonRangesResult}
+use Rattle.buffer_state.specs.Answers.{changed, zeroHead, createAnswer, timesCreated, tagsCreated, abortAnswer, modeAnswer, offsetAnswer, windowStartAnswer, windowEndAnswer, settingsAnswer, counted, timesAfter, tagsAfter, listAfter, appendResult, removeResult, rangeCount, rangesAfter, trackRangesResult, commonRangesResult}
 use Rattle.buffer_state.specs.Buffer.{Buffer, fresh}
-use Rattle.buffer_state.specs.Layout.{stateOf, bufferOf}
+use Rattle.buffer_state.specs.Lent.{Lent, lentOf, bufferIn}
 use Rattle.buffer_state.specs.Limits.{mostTracks, knownKind}
 use Rattle.buffer_state.specs.Refusals.{Result, done}
 use Rattle.buffer_state.specs.Run.{Call, replyTo, run, lastOf, offers, onOffered}
@@ -29,7 +29,7 @@ use Rattle.buffer_state.specs.Settings.{create}
 use Rattle.buffer_state.specs.WellFormed.{allOf, goodBuffer}
 use Rattle.buffer_laws.proofs.AccountLaws.{found-once, tracks-balance}
 use Rattle.buffer_laws.proofs.GoodLaws.{Good, good-facts, facts-good}
-use Rattle.buffer_laws.proofs.LayoutLaws.{buffer-back}
+use Rattle.buffer_laws.proofs.LentLaws.{held-back}
 use Rattle.buffer_laws.proofs.RunLaws.{reply-lawful, run-lawful}
 use Rattle.buffer_laws.proofs.SettingLaws.{created-good}
 use Rattle.buffer_laws.proofs.TestLaws.{all-none}
@@ -72,19 +72,19 @@ use Rattle.ranges.proofs.common_ranges.Met as CommonRangesMet
 
 -- ---- every history is the plain run
 
-record Plain (b : Buffer) (ms : List Made) (t : State) : Type 0 where
+record Plain (b : Buffer) (ms : List Made) (t : Lent) : Type 0 where
   pub results : entries ms ≡ run b (calls ms)
-  pub state : t ≡ stateOf (lastOf b (calls ms))
+  pub state : t ≡ lentOf (lastOf b (calls ms))
   pub kept : AllKept ms
 
 -- on from any good buffer
-abbrev Plainly : State → List Made → State → Type 0
-Plainly s ms t = (b : Buffer) → goodBuffer b ≡ true → s ≡ stateOf b → Plain b ms t
+abbrev Plainly : Lent → List Made → Lent → Type 0
+Plainly s ms t = (b : Buffer) → goodBuffer b ≡ true → s ≡ lentOf b → Plain b ms t
 
 reply-good : (c : Call) (b : Buffer) → goodBuffer b ≡ true → goodBuffer (replyTo c b .after) ≡ true
 reply-good c b good = facts-good (replyTo c b .after) (reply-lawful c b .good (good-facts b good))
 
-more : {b : Buffer} {g : Given} {back : Back g} {s t : State} {ms : List Made}
+more : {b : Buffer} {g : Given} {back : Back g} {s t : Lent} {ms : List Made}
     → goodBuffer b ≡ true → Agrees b g back s → Plainly s ms t → Plain b (record { given = g; back = back } ∷ ms) t
 unfolding run lastOf
 more {b} {g} {back} {s} {t} {ms} good a k =
@@ -96,19 +96,19 @@ more {b} {g} {back} {s} {t} {ms} good a k =
       kept = (a .kept, rest .kept);
     }
 
-plain : {s t : State} {ms : List Made} → From s ms t → Plainly s ms t
+plain : {s t : Lent} {ms : List Made} → From s ms t → Plainly s ms t
 unfolding run lastOf
 plain none b good e = record { results = refl; state = e; kept = tt }
-plain (by-append f lent r after κs h k) b good e = more good (append-agrees b good _ e f (now lent) after r (h .0) (h .1)) (λ c g d. plain k c g d)
-plain (by-remove start end lent r after κs h k) b good e = more good (remove-agrees b good _ e start end (now lent) after r (h .0) (h .1)) (λ c g d. plain k c g d)
-plain (by-abort r h k) b good e = more good (abort-agrees b good _ e r h) (λ c g d. plain k c g d)
-plain (by-mode m r h k) b good e = more good (mode-agrees b good _ e m r h) (λ c g d. plain k c g d)
-plain (by-offset x r h k) b good e = more good (offset-agrees b good _ e x r h) (λ c g d. plain k c g d)
-plain (by-window-start x r h k) b good e = more good (window-start-agrees b good _ e x r h) (λ c g d. plain k c g d)
-plain (by-window-end x r h k) b good e = more good (window-end-agrees b good _ e x r h) (λ c g d. plain k c g d)
-plain (by-reading r h k) b good e = more good (reading-agrees b good _ e r h) (λ c g d. plain k c g d)
-plain (by-track-ranges track lent r after κs h k) b good e = more good (track-ranges-agrees b good _ e track (now lent) after r h) (λ c g d. plain k c g d)
-plain (by-common-ranges lent r after κs h k) b good e = more good (common-ranges-agrees b good _ e (now lent) after r h) (λ c g d. plain k c g d)
+plain (by-append f times tags lent r ts gs after κs h k) b good e = more good (append-agrees b good _ e f (now lent) r ts gs after h) (λ c g d. plain k c g d)
+plain (by-remove start end times tags lent r ts gs after κs h k) b good e = more good (remove-agrees b good _ e start end (now lent) r ts gs after h) (λ c g d. plain k c g d)
+plain (by-abort times tags r κs h k) b good e = more good (abort-agrees b good _ e r h) (λ c g d. plain k c g d)
+plain (by-mode m times tags r κs h k) b good e = more good (mode-agrees b good _ e m r h) (λ c g d. plain k c g d)
+plain (by-offset x times tags r κs h k) b good e = more good (offset-agrees b good _ e x r h) (λ c g d. plain k c g d)
+plain (by-window-start x times tags r κs h k) b good e = more good (window-start-agrees b good _ e x r h) (λ c g d. plain k c g d)
+plain (by-window-end x times tags r κs h k) b good e = more good (window-end-agrees b good _ e x r h) (λ c g d. plain k c g d)
+plain (by-reading times tags r κs h k) b good e = more good (reading-agrees b good _ e r h) (λ c g d. plain k c g d)
+plain (by-track-ranges track times tags lent r after κs h k) b good e = more good (track-ranges-agrees b good _ e track (now lent) after r h) (λ c g d. plain k c g d)
+plain (by-common-ranges times tags lent r after κs h k) b good e = more good (common-ranges-agrees b good _ e (now lent) after r h) (λ c g d. plain k c g d)
 
 -- ---- a creation that was not refused
 
@@ -116,10 +116,10 @@ isDone : Code.Answer → Bool
 isDone Done = true
 isDone (Refused why) = false
 
-pub created : (kinds : List ℕ) → changed zeroState (create kinds) .answer ≡ Done → create kinds ≡ done (fresh kinds)
+pub created : (kinds : List ℕ) → changed zeroHead (create kinds) .answer ≡ Done → create kinds ≡ done (fresh kinds)
 unfolding create isDone
 created kinds =
-    by-test (λ (x : Result Buffer). changed zeroState x .answer ≡ Done → x ≡ done (fresh kinds))
+    by-test (λ (x : Result Buffer). changed zeroHead x .answer ≡ Done → x ≡ done (fresh kinds))
     (eqb (length kinds) 0 || (ltb mostTracks (length kinds) || not (allOf knownKind kinds)))
     (λ _ e. clash (sym (ap isDone e))) (λ _ e. refl)
 
@@ -141,10 +141,10 @@ module _ (kinds : List ℕ) (made : create kinds ≡ done (fresh kinds)) (cs : L
   given-last = run-lawful (fresh kinds) cs .last ∙ zero-add _
 
   -- the last state holds the run's last buffer
-  held : bufferOf (stateOf (lastOf (fresh kinds) cs)) ≡ lastOf (fresh kinds) cs
-  held = buffer-back (lastOf (fresh kinds) cs)
+  held : bufferIn (lentOf (lastOf (fresh kinds) cs)) ≡ lastOf (fresh kinds) cs
+  held = held-back (lastOf (fresh kinds) cs)
 
-  pub run-accounts : Account (run (fresh kinds) cs) (stateOf (lastOf (fresh kinds) cs))
+  pub run-accounts : Account (run (fresh kinds) cs) (lentOf (lastOf (fresh kinds) cs))
   run-accounts = record {
     last = given-last;
     placed = rw (ap (λ (b : Buffer). b .frames) held) (run-lawful (fresh kinds) cs .placed (fresh-good kinds made) [] refl (all-none (onOffered [])));
@@ -154,7 +154,7 @@ module _ (kinds : List ℕ) (made : create kinds ≡ done (fresh kinds)) (cs : L
 
 -- ---- THE THEOREM
 
-module _ (kinds : List ℕ) (made : create kinds ≡ done (fresh kinds)) (ms : List Made) (t : State) (p : Plain (fresh kinds) ms t) where
+module _ (kinds : List ℕ) (made : create kinds ≡ done (fresh kinds)) (ms : List Made) (t : Lent) (p : Plain (fresh kinds) ms t) where
   same-first : (n : ℕ) → entries (take n ms) ≡ run (fresh kinds) (calls (take n ms))
   same-first n =
       take-map _ n ms ∙ ap (take n) (p .results) ∙ sym (take-run (fresh kinds) n (calls ms))
@@ -169,11 +169,14 @@ module _ (kinds : List ℕ) (made : create kinds ≡ done (fresh kinds)) (ms : L
     kept = p .kept;
   }
 
-pub every-history : {kinds : List ℕ} {ms : List Made} {t : State} → History kinds ms t → Claim kinds ms t
+pub every-history : {kinds : List ℕ} {ms : List Made} {t : Lent} → History kinds ms t → Claim kinds ms t
 unfolding createAnswer
-every-history {kinds} {ms} {t} (from lent r κs h accepted k) =
-    let made = created kinds (sym (ap (λ (c : Changed). c .answer) h) ∙ accepted) in
-    let begun : r .state ≡ stateOf (fresh kinds) = ap (λ (c : Changed). c .state) h ∙ ap (λ (x : Result Buffer). changed zeroState x .state) made in
+every-history {kinds} {ms} {t} (from lent times tags r ts gs κs h accepted k) =
+    let made = created kinds (sym (ap (λ (c : Changed). c .answer) (h .0)) ∙ accepted) in
+    let head = ap (λ (c : Changed). c .head) (h .0) ∙ ap (λ (x : Result Buffer). changed zeroHead x .head) made in
+    let first = h .1 .0 ∙ ap (λ (x : Result Buffer). timesCreated x (now times)) made in
+    let second = h .1 .1 ∙ ap (λ (x : Result Buffer). tagsCreated x (now tags)) made in
+    let begun : _≡_ {A = Lent} (record { head = r .head; times = ts; tags = gs }) (lentOf (fresh kinds)) = λ i. record { head = head i; times = first i; tags = second i } in
     claimed kinds made ms t (plain k (fresh kinds) (facts-good (fresh kinds) (fresh-good kinds made)) begun)
 
 -- ---- it is not vacuous: every list of calls on every buffer created has a history
@@ -182,18 +185,21 @@ every-history {kinds} {ms} {t} (from lent r κs h accepted k) =
 abbrev lend : {A : Type 0} → A → RefT A
 lend d = record { ptr = (0, 0); name = 0; now = d }
 
-abbrev lifetime : Lfts 1
-lifetime = ([], tt)
+abbrev two : Lfts 2
+two = ([], ([], tt))
 
-record Onward (s : State) (gs : List Given) : Type 0 where
+abbrev three : Lfts 3
+three = ([], ([], ([], tt)))
+
+record Onward (s : Lent) (gs : List Given) : Type 0 where
   pub made : List Made
   pub same : map (λ (m : Made). m .given) made ≡ gs
-  pub last : State
+  pub last : Lent
   pub steps : From s made last
 
 -- one call, then the others
-first : {s u : State} {g : Given} {back : Back g} {gs : List Given}
-    → ((ms : List Made) (t : State) → From u ms t → From s (record { given = g; back = back } ∷ ms) t)
+first : {s u : Lent} {g : Given} {back : Back g} {gs : List Given}
+    → ((ms : List Made) (t : Lent) → From u ms t → From s (record { given = g; back = back } ∷ ms) t)
     → Onward u gs → Onward s (g ∷ gs)
 first {g = g} step o = record {
   made = _;
@@ -202,46 +208,70 @@ first {g = g} step o = record {
   steps = step (o .made) (o .last) (o .steps);
 }
 
-onward : (s : State) (gs : List Given) → Onward s gs
+-- the state under another head, and the references that are lent to its arrays
+abbrev under : Lent → Changed → Lent
+under s r = record { head = r .head; times = s .times; tags = s .tags }
+
+onward : (s : Lent) (gs : List Given) → Onward s gs
 onward s [] = record { made = []; same = refl; last = s; steps = none }
 onward s (append f d ∷ gs) =
-    let x = appendResult (length d) f s in
-    first (λ ms t k. by-append f (lend d) (counted s x) (listAfter x d) lifetime (refl, refl) k) (onward (counted s x .state) gs)
+    let x = appendResult (length d) f (s .head) (s .times) (s .tags) in
+    let u : Lent = record { head = counted (s .head) x .head; times = timesAfter x (s .times); tags = tagsAfter x (s .tags) } in
+    first {u = u} (λ ms t k. by-append f (lend (s .times)) (lend (s .tags)) (lend d) (counted (s .head) x) (u .times) (u .tags) (listAfter x d) three (refl, (refl, (refl, refl))) k) (onward u gs)
 onward s (remove start end d ∷ gs) =
-    let x = removeResult (length d) start end s in
-    first (λ ms t k. by-remove start end (lend d) (counted s x) (listAfter x d) lifetime (refl, refl) k) (onward (counted s x .state) gs)
-onward s (abort ∷ gs) = first (λ ms t k. by-abort (abortAnswer s) refl k) (onward (abortAnswer s .state) gs)
-onward s (setMode m ∷ gs) = first (λ ms t k. by-mode m (modeAnswer m s) refl k) (onward (modeAnswer m s .state) gs)
-onward s (setOffset x ∷ gs) = first (λ ms t k. by-offset x (offsetAnswer x s) refl k) (onward (offsetAnswer x s .state) gs)
-onward s (setWindowStart x ∷ gs) = first (λ ms t k. by-window-start x (windowStartAnswer x s) refl k) (onward (windowStartAnswer x s .state) gs)
-onward s (setWindowEnd x ∷ gs) = first (λ ms t k. by-window-end x (windowEndAnswer x s) refl k) (onward (windowEndAnswer x s .state) gs)
-onward s (readSettings ∷ gs) = first (λ ms t k. by-reading (settingsAnswer s) refl k) (onward s gs)
+    let x = removeResult (length d) start end (s .head) (s .times) (s .tags) in
+    let u : Lent = record { head = counted (s .head) x .head; times = timesAfter x (s .times); tags = tagsAfter x (s .tags) } in
+    first {u = u} (λ ms t k. by-remove start end (lend (s .times)) (lend (s .tags)) (lend d) (counted (s .head) x) (u .times) (u .tags) (listAfter x d) three (refl, (refl, (refl, refl))) k) (onward u gs)
+onward s (abort ∷ gs) =
+    let r = abortAnswer (s .head) (s .times) (s .tags) in
+    first {u = under s r} (λ ms t k. by-abort (lend (s .times)) (lend (s .tags)) r two refl k) (onward (under s r) gs)
+onward s (setMode m ∷ gs) =
+    let r = modeAnswer m (s .head) (s .times) (s .tags) in
+    first {u = under s r} (λ ms t k. by-mode m (lend (s .times)) (lend (s .tags)) r two refl k) (onward (under s r) gs)
+onward s (setOffset x ∷ gs) =
+    let r = offsetAnswer x (s .head) (s .times) (s .tags) in
+    first {u = under s r} (λ ms t k. by-offset x (lend (s .times)) (lend (s .tags)) r two refl k) (onward (under s r) gs)
+onward s (setWindowStart x ∷ gs) =
+    let r = windowStartAnswer x (s .head) (s .times) (s .tags) in
+    first {u = under s r} (λ ms t k. by-window-start x (lend (s .times)) (lend (s .tags)) r two refl k) (onward (under s r) gs)
+onward s (setWindowEnd x ∷ gs) =
+    let r = windowEndAnswer x (s .head) (s .times) (s .tags) in
+    first {u = under s r} (λ ms t k. by-window-end x (lend (s .times)) (lend (s .tags)) r two refl k) (onward (under s r) gs)
+onward s (readSettings ∷ gs) =
+    first {u = s} (λ ms t k. by-reading (lend (s .times)) (lend (s .tags)) (settingsAnswer (s .head) (s .times) (s .tags)) two refl k) (onward s gs)
 onward s (trackRanges track d ∷ gs) =
-    let x = trackRangesResult (length d) track s in
-    first (λ ms t k. by-track-ranges track (lend d) (rangeCount x) (rangesAfter x d) lifetime (record { answer = refl; list = refl }) k) (onward s gs)
+    let x = trackRangesResult (length d) track (s .head) (s .times) (s .tags) in
+    first {u = s} (λ ms t k. by-track-ranges track (lend (s .times)) (lend (s .tags)) (lend d) (rangeCount x) (rangesAfter x d) three (record { answer = refl; list = refl }) k) (onward s gs)
 onward s (commonRanges d ∷ gs) =
-    let x = commonRangesResult (length d) s in
-    first (λ ms t k. by-common-ranges (lend d) (rangeCount x) (rangesAfter x d) lifetime (record { answer = refl; list = refl }) k) (onward s gs)
+    let x = commonRangesResult (length d) (s .head) (s .times) (s .tags) in
+    first {u = s} (λ ms t k. by-common-ranges (lend (s .times)) (lend (s .tags)) (lend d) (rangeCount x) (rangesAfter x d) three (record { answer = refl; list = refl }) k) (onward s gs)
 
-pub some-history : (kinds : List ℕ) (gs : List Given) → create kinds ≡ done (fresh kinds) → Happens kinds gs
+-- whatever the arrays held before the creation
+pub some-history : (kinds : List ℕ) (ts : List (List ℤ)) (fs : List (List ℕ)) (gs : List Given) → create kinds ≡ done (fresh kinds) → Happens kinds gs
 unfolding createAnswer
-some-history kinds gs made =
-    let o = onward (createAnswer kinds .state) gs in
+some-history kinds ts fs gs made =
+    let r = createAnswer kinds in
+    let o = onward (record { head = r .head; times = timesCreated (create kinds) ts; tags = tagsCreated (create kinds) fs }) gs in
     record {
       made = o .made;
       same = o .same;
       last = o .last;
-      history = from (lend kinds) (createAnswer kinds) lifetime refl (ap (λ (x : Result Buffer). changed zeroState x .answer) made) (o .steps);
+      history = from (lend kinds) (lend ts) (lend fs) r (timesCreated (create kinds) ts) (tagsCreated (create kinds) fs) three (refl, (refl, refl))
+          (ap (λ (x : Result Buffer). changed zeroHead x .answer) made) (o .steps);
     }
 
 -- ---- it has no hidden door
 
 -- no call asks anything of its caller
-pub free : (κs : Lfts 1) (s : State) (f : Offered) (m : Mode) (x y : Float) (track : ℕ) (kinds : RefT (List ℕ)) (fates : RefT (List (List ℕ))) (list : RefT (List (List ℤ)))
-    → Create.Asked κs (kinds, tt) × Append.Asked κs (s, (f, (fates, tt))) × Remove.Asked κs (s, (x, (y, (fates, tt)))) × Abort.Asked tt (s, tt)
-    × SetMode.Asked tt (s, (m, tt)) × SetOffset.Asked tt (s, (x, tt)) × SetWindowStart.Asked tt (s, (x, tt)) × SetWindowEnd.Asked tt (s, (x, tt))
-    × ReadSettings.Asked tt (s, tt) × TrackRanges.Asked κs (s, (track, (list, tt))) × CommonRanges.Asked κs (s, (list, tt))
-free κs s f m x y track kinds fates list = (tt, tt, tt, tt, tt, tt, tt, tt, tt, tt, tt)
+pub free : (κs : Lfts 2) (λs : Lfts 3) (h : Head) (f : Offered) (m : Mode) (x y : Float) (track : ℕ) (kinds : RefT (List ℕ))
+    (times : RefT (List (List ℤ))) (tags : RefT (List (List ℕ))) (fates : RefT (List (List ℕ))) (list : RefT (List (List ℤ)))
+    → Create.Asked λs (kinds, (times, (tags, tt))) × Append.Asked λs (h, (f, (times, (tags, (fates, tt)))))
+    × Remove.Asked λs (h, (x, (y, (times, (tags, (fates, tt)))))) × Abort.Asked κs (h, (times, (tags, tt)))
+    × SetMode.Asked κs (h, (times, (tags, (m, tt)))) × SetOffset.Asked κs (h, (times, (tags, (x, tt))))
+    × SetWindowStart.Asked κs (h, (times, (tags, (x, tt)))) × SetWindowEnd.Asked κs (h, (times, (tags, (x, tt))))
+    × ReadSettings.Asked κs (h, (times, (tags, tt))) × TrackRanges.Asked λs (h, (times, (tags, (track, (list, tt)))))
+    × CommonRanges.Asked λs (h, (times, (tags, (list, tt))))
+free κs λs h f m x y track kinds times tags fates list = (tt, tt, tt, tt, tt, tt, tt, tt, tt, tt, tt)
 
 -- the running code meets the contracts of which a history is made
 pub code-meets : {M : Type 1}

@@ -13,14 +13,13 @@ use Rattle.buffer_state.specs.declared.Counted.{Counted}
 use Rattle.buffer_state.specs.declared.Mode.{Mode}
 use Rattle.buffer_state.specs.declared.Offered.{Offered}
 use Rattle.buffer_state.specs.declared.Read.{Read}
-use Rattle.buffer_state.specs.declared.State.{State}
 use Rattle.buffer_state.specs.declared.WindowEnd.{WindowEnd}
 use Rattle.buffer_state.specs.declared.WindowEnd.the-variants.{Unbounded, At}
-use Rattle.buffer_state.specs.Answers.{changed, abortAnswer, modeAnswer, offsetAnswer, windowStartAnswer, windowEndAnswer, readWith, read, settingsAnswer, counted, listAfter, appendResult, removeResult, rangeCount, rangesAfter, trackRangesResult, commonRangesResult}
+use Rattle.buffer_state.specs.Answers.{changed, abortAnswer, modeAnswer, offsetAnswer, windowStartAnswer, windowEndAnswer, readWith, read, settingsAnswer, counted, timesAfter, tagsAfter, listAfter, appendResult, removeResult, rangeCount, rangesAfter, trackRangesResult, commonRangesResult}
 use Rattle.buffer_state.specs.Append as Append
 use Rattle.buffer_state.specs.Append.{Outcome}
-use Rattle.buffer_state.specs.Buffer.{Buffer}
-use Rattle.buffer_state.specs.Layout.{stateOf, onState}
+use Rattle.buffer_state.specs.Buffer.{Buffer, withFrames}
+use Rattle.buffer_state.specs.Lent.{Lent, headOf, timesIn, tagsIn, lentOf, onLent}
 use Rattle.buffer_state.specs.Ranges as Ranges
 use Rattle.buffer_state.specs.Ranges.{Range}
 use Rattle.buffer_state.specs.Refusals.{Result, refused, done}
@@ -29,14 +28,17 @@ use Rattle.buffer_state.specs.Run.{fates, settings, ranges, byOutcome, bySettin
 use Rattle.buffer_state.specs.Settings.{aborted, modeSet, offsetSet, windowStartSet, windowEndSet, reading}
 use Rattle.buffer_state.specs.Store.{Line}
 use Rattle.buffer_state.specs.WellFormed.{goodBuffer}
-use Rattle.buffer_laws.proofs.LayoutLaws.{on-laid-out}
+use Rattle.buffer_laws.proofs.AnswerLaws.{Leaves}
+use Rattle.buffer_laws.proofs.LentLaws.{on-laid-out}
+use Rattle.buffer_laws.proofs.SettingLaws as Setting
+use Rattle.buffer_laws.proofs.SettingLaws.{IfDone, aborted-good, aborted-untouched, mode-good, mode-untouched, offset-set, window-start-set, window-end-set}
 use Rattle.ranges.specs.Bars.{Reported}
 use Rattle.account.specs.Made.{Given, append, remove, abort, setMode, setOffset, setWindowStart, setWindowEnd, readSettings, trackRanges, commonRanges, asked, Back, lineOf, rangeOf, linesOf, rangesOf, changeOf, readingOf, resultOf, Kept, KeptBy}
 
 -- a call made on a state agrees with the run's reply: its result, the state that it leaves, what stays of a lent list
-pub record Agrees (b : Buffer) (g : Given) (back : Back g) (s : State) : Type 0 where
+pub record Agrees (b : Buffer) (g : Given) (back : Back g) (s : Lent) : Type 0 where
   pub result : resultOf g back ≡ replyTo (asked g) b .result
-  pub state : s ≡ stateOf (replyTo (asked g) b .after)
+  pub state : s ≡ lentOf (replyTo (asked g) b .after)
   pub kept : KeptBy g back
 
 -- ---- a list that was written: read back, and what stays
@@ -58,12 +60,13 @@ module _ {A B : Type 0} (f : A → B) (g : B → A) (e : (x : A) → g (f x) ≡
 -- ---- what the answers of one kind say, for any result
 
 -- append and remove
-record Lined (b : Buffer) (x : Result Outcome) (lent : List (List ℕ)) (r : Counted) (after : List (List ℕ)) : Type 0 where
+record Lined (b : Buffer) (x : Result Outcome) (lent : List (List ℕ)) (r : Counted) (ts : List (List ℤ)) (gs after : List (List ℕ)) : Type 0 where
   pub result : linesOf (record { answer = r .answer; after = after }) (r .answer) ≡ byOutcome b x .result
-  pub state : r .state ≡ stateOf (byOutcome b x .after)
+  pub state : _≡_ {A = Lent} (record { head = r .head; times = ts; tags = gs }) (lentOf (byOutcome b x .after))
   pub kept : Kept lent (record { answer = r .answer; after = after })
 
-lined : (b : Buffer) (x : Result Outcome) (lent : List (List ℕ)) → Lined b x lent (counted (stateOf b) x) (listAfter x lent)
+lined : (b : Buffer) (x : Result Outcome) (lent : List (List ℕ))
+    → Lined b x lent (counted (headOf b) x) (timesAfter x (timesIn b)) (tagsAfter x (tagsIn b)) (listAfter x lent)
 lined b (refused why) lent = record { result = refl; state = refl; kept = refl }
 lined b (done o) lent =
     let line : Line → List ℕ = λ l. l .number ∷ l .cause ∷ [] in
@@ -78,7 +81,7 @@ lined b (done o) lent =
 -- the reports
 record Spanned (b : Buffer) (x : Result (List Range)) (lent : List (List ℤ)) (r : Count) (after : List (List ℤ)) : Type 0 where
   pub result : rangesOf (record { answer = r; after = after }) r ≡ byRanges b x .result
-  pub state : stateOf b ≡ stateOf (byRanges b x .after)
+  pub state : lentOf b ≡ lentOf (byRanges b x .after)
   pub kept : Kept lent (record { answer = r; after = after })
 
 spanned : (b : Buffer) (x : Result (List Range)) (lent : List (List ℤ)) → Spanned b x lent (rangeCount x) (rangesAfter x lent)
@@ -92,14 +95,19 @@ spanned b (done rs) lent =
       kept = stays place rangeOf (λ x. refl) rs rest;
     }
 
--- abort and the setters
+-- abort and the setters, which touch no frame
 record Set (b : Buffer) (x : Result Buffer) (r : Changed) : Type 0 where
   pub result : changeOf (r .answer) ≡ bySetting b x .result
-  pub state : r .state ≡ stateOf (bySetting b x .after)
+  pub state : _≡_ {A = Lent} (record { head = r .head; times = timesIn b; tags = tagsIn b }) (lentOf (bySetting b x .after))
 
-set : (b : Buffer) (x : Result Buffer) → Set b x (changed (stateOf b) x)
-set b (refused why) = record { result = refl; state = refl }
-set b (done c) = record { result = refl; state = refl }
+set : (b : Buffer) (x : Result Buffer) → IfDone (Setting.Set b) x → Set b x (changed (headOf b) x)
+set b (refused why) k = record { result = refl; state = refl }
+set b (done c) k =
+    let e = sym (k .untouched .frames) in
+    record {
+      result = refl;
+      state = λ i. record { head = headOf c; times = timesIn (withFrames b (e i)); tags = tagsIn (withFrames b (e i)) };
+    }
 
 -- a reading
 read-said : (offset start : Float) (e : WindowEnd) → readingOf (readWith offset start e) ≡ done (settings (record { offset = offset; start = start; end = e }))
@@ -108,89 +116,106 @@ read-said offset start (At x) = refl
 
 -- ---- each call, on the state that holds a good buffer
 
-module _ (b : Buffer) (good : goodBuffer b ≡ true) (s : State) (here : s ≡ stateOf b) where
-  on-buffer : {A : Type 0} (call : Buffer → Result A) → onState call s ≡ call b
-  on-buffer call = ap (onState call) here ∙ on-laid-out call b good
+module _ (b : Buffer) (good : goodBuffer b ≡ true) (s : Lent) (here : s ≡ lentOf b) where
+  on-buffer : {A : Type 0} (call : Buffer → Result A) → onLent call (s .head) (s .times) (s .tags) ≡ call b
+  on-buffer call = ap (λ (t : Lent). onLent call (t .head) (t .times) (t .tags)) here ∙ on-laid-out call b good
 
-  outcome : (call : Buffer → Result Outcome) (lent after : List (List ℕ)) (r : Counted)
-      → r ≡ counted s (onState call s) → after ≡ listAfter (onState call s) lent → Lined b (call b) lent r after
-  outcome call lent after r h k =
-      let e : r ≡ counted (stateOf b) (call b) = h ∙ ap₂ counted here (on-buffer call) in
-      let f : after ≡ listAfter (call b) lent = k ∙ ap (λ (x : Result Outcome). listAfter x lent) (on-buffer call) in
-      rw (e, f) (lined b (call b) lent)
+  outcome : (call : Buffer → Result Outcome) (lent : List (List ℕ)) (r : Counted) (ts : List (List ℤ)) (gs after : List (List ℕ))
+      → Leaves (s .head) (s .times) (s .tags) lent (onLent call (s .head) (s .times) (s .tags)) r ts gs after → Lined b (call b) lent r ts gs after
+  outcome call lent r ts gs after h =
+      let x = on-buffer call in
+      let e : r ≡ counted (headOf b) (call b) = h .0 ∙ (λ i. counted (here i .head) (x i)) in
+      let f : ts ≡ timesAfter (call b) (timesIn b) = h .1 .0 ∙ (λ i. timesAfter (x i) (here i .times)) in
+      let g : gs ≡ tagsAfter (call b) (tagsIn b) = h .1 .1 .0 ∙ (λ i. tagsAfter (x i) (here i .tags)) in
+      let k : after ≡ listAfter (call b) lent = h .1 .1 .1 ∙ ap (λ (y : Result Outcome). listAfter y lent) x in
+      rw (e, f, g, k) (lined b (call b) lent)
 
   report : (call : Buffer → Result (List Range)) (lent after : List (List ℤ)) (r : Count)
-      → Reported r after (onState call s) lent → Spanned b (call b) lent r after
+      → Reported r after (onLent call (s .head) (s .times) (s .tags)) lent → Spanned b (call b) lent r after
   report call lent after r h =
       let e : r ≡ rangeCount (call b) = h .answer ∙ ap rangeCount (on-buffer call) in
       let f : after ≡ rangesAfter (call b) lent = h .list ∙ ap (λ (x : Result (List Range)). rangesAfter x lent) (on-buffer call) in
       rw (e, f) (spanned b (call b) lent)
 
-  setting : (call : Buffer → Result Buffer) (r : Changed) → r ≡ changed s (onState call s) → Set b (call b) r
-  setting call r h =
-      let e : r ≡ changed (stateOf b) (call b) = h ∙ ap₂ changed here (on-buffer call) in
-      rw e (set b (call b))
+  module _ (call : Buffer → Result Buffer) (untouched : IfDone (Setting.Set b) (call b)) (r : Changed) where
+    set-to : r ≡ changed (s .head) (onLent call (s .head) (s .times) (s .tags)) → Set b (call b) r
+    set-to h =
+        let x = on-buffer call in
+        let e : r ≡ changed (headOf b) (call b) = h ∙ (λ i. changed (here i .head) (x i)) in
+        rw e (set b (call b) untouched)
 
-  pub append-agrees : (f : Offered) (lent after : List (List ℕ)) (r : Counted)
-      → r ≡ counted s (appendResult (length lent) f s) → after ≡ listAfter (appendResult (length lent) f s) lent
-      → Agrees b (append f lent) (record { answer = r .answer; after = after }) (r .state)
+    -- the arrays stay as they are
+    same-arrays : Set b (call b) r → _≡_ {A = Lent} (record { head = r .head; times = s .times; tags = s .tags }) (lentOf (bySetting b (call b) .after))
+    same-arrays o = (λ i. record { head = r .head; times = here i .times; tags = here i .tags }) ∙ o .state
+
+  pub append-agrees : (f : Offered) (lent : List (List ℕ)) (r : Counted) (ts : List (List ℤ)) (gs after : List (List ℕ))
+      → Leaves (s .head) (s .times) (s .tags) lent (appendResult (length lent) f (s .head) (s .times) (s .tags)) r ts gs after
+      → Agrees b (append f lent) (record { answer = r .answer; after = after }) (record { head = r .head; times = ts; tags = gs })
   unfolding appendResult replyTo
-  append-agrees f lent after r h k =
-      let o = outcome (Append.append (length lent) f) lent after r h k in
+  append-agrees f lent r ts gs after h =
+      let o = outcome (Append.append (length lent) f) lent r ts gs after h in
       record { result = o .result; state = o .state; kept = o .kept }
 
-  pub remove-agrees : (start end : Float) (lent after : List (List ℕ)) (r : Counted)
-      → r ≡ counted s (removeResult (length lent) start end s) → after ≡ listAfter (removeResult (length lent) start end s) lent
-      → Agrees b (remove start end lent) (record { answer = r .answer; after = after }) (r .state)
+  pub remove-agrees : (start end : Float) (lent : List (List ℕ)) (r : Counted) (ts : List (List ℤ)) (gs after : List (List ℕ))
+      → Leaves (s .head) (s .times) (s .tags) lent (removeResult (length lent) start end (s .head) (s .times) (s .tags)) r ts gs after
+      → Agrees b (remove start end lent) (record { answer = r .answer; after = after }) (record { head = r .head; times = ts; tags = gs })
   unfolding removeResult replyTo
-  remove-agrees start end lent after r h k =
-      let o = outcome (Remove.remove (length lent) start end) lent after r h k in
+  remove-agrees start end lent r ts gs after h =
+      let o = outcome (Remove.remove (length lent) start end) lent r ts gs after h in
       record { result = o .result; state = o .state; kept = o .kept }
 
-  pub abort-agrees : (r : Changed) → r ≡ abortAnswer s → Agrees b abort (r .answer) (r .state)
+  -- the state after a call that changes the head alone
+  abbrev under : Changed → Lent
+  under r = record { head = r .head; times = s .times; tags = s .tags }
+
+  pub abort-agrees : (r : Changed) → r ≡ abortAnswer (s .head) (s .times) (s .tags) → Agrees b abort (r .answer) (under r)
   unfolding abortAnswer replyTo
   abort-agrees r h =
-      let o = setting (λ (c : Buffer). done (aborted c)) r h in
-      record { result = o .result; state = o .state; kept = tt }
+      let call : Buffer → Result Buffer = λ c. done (aborted c) in
+      let k : IfDone (Setting.Set b) (call b) = record { good = aborted-good b; untouched = aborted-untouched b } in
+      let o = set-to call k r h in
+      record { result = o .result; state = same-arrays call k r o; kept = tt }
 
-  pub mode-agrees : (m : Mode) (r : Changed) → r ≡ modeAnswer m s → Agrees b (setMode m) (r .answer) (r .state)
+  pub mode-agrees : (m : Mode) (r : Changed) → r ≡ modeAnswer m (s .head) (s .times) (s .tags) → Agrees b (setMode m) (r .answer) (under r)
   unfolding modeAnswer replyTo
   mode-agrees m r h =
-      let o = setting (λ (c : Buffer). done (modeSet m c)) r h in
-      record { result = o .result; state = o .state; kept = tt }
+      let call : Buffer → Result Buffer = λ c. done (modeSet m c) in
+      let k : IfDone (Setting.Set b) (call b) = record { good = mode-good m b; untouched = mode-untouched m b } in
+      let o = set-to call k r h in
+      record { result = o .result; state = same-arrays call k r o; kept = tt }
 
-  pub offset-agrees : (x : Float) (r : Changed) → r ≡ offsetAnswer x s → Agrees b (setOffset x) (r .answer) (r .state)
+  pub offset-agrees : (x : Float) (r : Changed) → r ≡ offsetAnswer x (s .head) (s .times) (s .tags) → Agrees b (setOffset x) (r .answer) (under r)
   unfolding offsetAnswer replyTo
   offset-agrees x r h =
-      let o = setting (offsetSet x) r h in
-      record { result = o .result; state = o .state; kept = tt }
+      let o = set-to (offsetSet x) (offset-set x b) r h in
+      record { result = o .result; state = same-arrays (offsetSet x) (offset-set x b) r o; kept = tt }
 
-  pub window-start-agrees : (x : Float) (r : Changed) → r ≡ windowStartAnswer x s → Agrees b (setWindowStart x) (r .answer) (r .state)
+  pub window-start-agrees : (x : Float) (r : Changed) → r ≡ windowStartAnswer x (s .head) (s .times) (s .tags) → Agrees b (setWindowStart x) (r .answer) (under r)
   unfolding windowStartAnswer replyTo
   window-start-agrees x r h =
-      let o = setting (windowStartSet x) r h in
-      record { result = o .result; state = o .state; kept = tt }
+      let o = set-to (windowStartSet x) (window-start-set x b) r h in
+      record { result = o .result; state = same-arrays (windowStartSet x) (window-start-set x b) r o; kept = tt }
 
-  pub window-end-agrees : (x : Float) (r : Changed) → r ≡ windowEndAnswer x s → Agrees b (setWindowEnd x) (r .answer) (r .state)
+  pub window-end-agrees : (x : Float) (r : Changed) → r ≡ windowEndAnswer x (s .head) (s .times) (s .tags) → Agrees b (setWindowEnd x) (r .answer) (under r)
   unfolding windowEndAnswer replyTo
   window-end-agrees x r h =
-      let o = setting (windowEndSet x) r h in
-      record { result = o .result; state = o .state; kept = tt }
+      let o = set-to (windowEndSet x) (window-end-set x b) r h in
+      record { result = o .result; state = same-arrays (windowEndSet x) (window-end-set x b) r o; kept = tt }
 
-  pub reading-agrees : (r : Read) → r ≡ settingsAnswer s → Agrees b readSettings r s
+  pub reading-agrees : (r : Read) → r ≡ settingsAnswer (s .head) (s .times) (s .tags) → Agrees b readSettings r s
   unfolding settingsAnswer replyTo
   reading-agrees r h =
       let e : r ≡ read (done (reading b)) = h ∙ ap read (on-buffer (λ (c : Buffer). done (reading c))) in
       record { result = ap readingOf e ∙ read-said _ _ (b .settings .end); state = here; kept = tt }
 
-  pub track-ranges-agrees : (track : ℕ) (lent after : List (List ℤ)) (r : Count) → Reported r after (trackRangesResult (length lent) track s) lent
+  pub track-ranges-agrees : (track : ℕ) (lent after : List (List ℤ)) (r : Count) → Reported r after (trackRangesResult (length lent) track (s .head) (s .times) (s .tags)) lent
       → Agrees b (trackRanges track lent) (record { answer = r; after = after }) s
   unfolding trackRangesResult replyTo
   track-ranges-agrees track lent after r h =
       let o = report (Ranges.trackRanges (length lent) track) lent after r h in
       record { result = o .result; state = here ∙ o .state; kept = o .kept }
 
-  pub common-ranges-agrees : (lent after : List (List ℤ)) (r : Count) → Reported r after (commonRangesResult (length lent) s) lent
+  pub common-ranges-agrees : (lent after : List (List ℤ)) (r : Count) → Reported r after (commonRangesResult (length lent) (s .head) (s .times) (s .tags)) lent
       → Agrees b (commonRanges lent) (record { answer = r; after = after }) s
   unfolding commonRangesResult replyTo
   common-ranges-agrees lent after r h =

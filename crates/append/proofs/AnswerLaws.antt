@@ -1,99 +1,126 @@
--- The call's answer: each refusal where its test is the first to pass, and after all of them the last pass settled.
-use mathlib.Core.Path.{_≡_, sym, ap, _∙_}
+-- The call's result: each refusal where its test is the first to pass, and after all of them the last pass settled.
+use mathlib.Core.Path.{_≡_, refl, sym, ap, _∙_}
 use mathlib.Core.Bool.{true, false, _&&_}
+use mathlib.Core.List.{List}
 use Prim.Native.Nat.{ℕ, _≤_, _<_}
 use native.Mathlib.Omega.{arith}
 use lib.Dec.{leb, eqb}
+use lib.IntN.{ℤ}
 use lib.ListN.{length}
 use borrow.Author.Tests.{lt-ltb, le-ltb, eq-eqb, eqb-false, leb-true}
 use Rattle.laws.proofs.BoolLaws.{and-left, and-right}
+use Rattle.buffer_state.specs.declared.Frame.{Frame}
+use Rattle.buffer_state.specs.declared.Head.{Head}
 use Rattle.buffer_state.specs.declared.Offered.{Offered}
 use Rattle.buffer_state.specs.declared.Refusal.the-variants.{IllFormed, ShortFates, NoTrack, FrameLimits, ResultLimits, LastNumber}
-use Rattle.buffer_state.specs.declared.State.{State}
 use Rattle.buffer_state.specs.Answers.{appendResult}
-use Rattle.buffer_state.specs.Append.{lastPass, leavesLimits, appended, offerable, append}
-use Rattle.buffer_state.specs.Buffer.{withFrames}
-use Rattle.buffer_state.specs.Layout.{bufferOf, wellFormed}
+use Rattle.buffer_state.specs.Append.{Pass, lastPass, leavesLimits, appended, offerable, append}
+use Rattle.buffer_state.specs.Buffer.{Buffer}
+use Rattle.buffer_state.specs.Layout.{zeroFrame, padded, bufferOf}
+use Rattle.buffer_state.specs.Lent.{timesOf, tagsOf, stateAt, headOf, wellFormedAt}
 use Rattle.buffer_state.specs.Limits.{places, lastNumber}
 use Rattle.buffer_state.specs.Refusals.{refused}
 use Rattle.buffer_laws.proofs.AppendLaws.{last-from, last-pass-good}
-use Rattle.buffer_laws.proofs.GoodLaws.{Good, good-facts}
-use Rattle.buffer_laws.proofs.LayoutLaws.{laid-out, ill-formed-refused, on-well-formed, state-back, well-formed-good}
-use Rattle.store.specs.Marks.{stored}
-use Rattle.heads.specs.Heads.{headOf, headIn, HasTrack}
+use Rattle.buffer_laws.proofs.GoodLaws.{Good, facts-good}
+use Rattle.buffer_laws.proofs.LayoutLaws.{few-tracks}
+use Rattle.buffer_laws.proofs.LentLaws.{Holds, lent-good, lent-back, held-back, laid-well-formed, ill-formed-refused, on-well-formed}
+use Rattle.heads.specs.Heads.{GoodHead, HasTrack}
 use Rattle.append.specs.Settled.{settledResult, passAt, Ready}
-use Rattle.heads.proofs.HeadLaws.{head-back, good-head}
+use Rattle.append.proofs.StoredLaws.{held-good, held-head}
 
-module _ (lent : ℕ) (f : Offered) (s : State) where
-  pub refused-one : wellFormed s ≡ false → appendResult lent f s ≡ refused IllFormed
+module _ (lent : ℕ) (f : Offered) (h : Head) (ts : List (List ℤ)) (gs : List (List ℕ)) where
+  abbrev held : Buffer
+  held = bufferOf (stateAt h ts gs)
+
+  pub refused-one : wellFormedAt h ts gs ≡ false → appendResult lent f h ts gs ≡ refused IllFormed
   unfolding appendResult
-  refused-one h = ill-formed-refused (append lent f) s h
+  refused-one e = ill-formed-refused (append lent f) h ts gs e
 
-  module _ (w : wellFormed s ≡ true) where
-    whole : appendResult lent f s ≡ append lent f (bufferOf s)
+  module _ (w : wellFormedAt h ts gs ≡ true) where
+    whole : appendResult lent f h ts gs ≡ append lent f held
     unfolding appendResult
-    whole = on-well-formed (append lent f) s w
+    whole = on-well-formed (append lent f) h ts gs w
 
-    pub refused-two : lent < places → appendResult lent f s ≡ refused ShortFates
+    pub refused-two : lent < places → appendResult lent f h ts gs ≡ refused ShortFates
     unfolding append
-    refused-two h = whole ∙ rw (lt-ltb lent places h)
+    refused-two e = whole ∙ rw (lt-ltb lent places e)
 
     module _ (lines : places ≤ lent) where
-      count : length (bufferOf s .tracks) ≡ s .ntracks
-      count = ap (λ (t : State). t .ntracks) (state-back s w)
+      count : length (held .tracks) ≡ h .ntracks
+      count = ap (λ (k : Head). k .ntracks) (sym (held-head h ts gs w))
 
-      pub refused-three : (leb 1 (f .track) && leb (f .track) (s .ntracks)) ≡ false → appendResult lent f s ≡ refused NoTrack
+      pub refused-three : (leb 1 (f .track) && leb (f .track) (h .ntracks)) ≡ false → appendResult lent f h ts gs ≡ refused NoTrack
       unfolding append
-      refused-three h = whole ∙ rw (le-ltb lent places lines, count, h)
+      refused-three e = whole ∙ rw (le-ltb lent places lines, count, e)
 
-      module _ (track : (leb 1 (f .track) && leb (f .track) (s .ntracks)) ≡ true) where
-        pub refused-four : offerable f ≡ false → appendResult lent f s ≡ refused FrameLimits
+      module _ (track : (leb 1 (f .track) && leb (f .track) (h .ntracks)) ≡ true) where
+        pub refused-four : offerable f ≡ false → appendResult lent f h ts gs ≡ refused FrameLimits
         unfolding append
-        refused-four h = whole ∙ rw (le-ltb lent places lines, count, track, h)
+        refused-four e = whole ∙ rw (le-ltb lent places lines, count, track, e)
 
         module _ (good : offerable f ≡ true) where
-          pub refused-nine : s .last ≡ lastNumber → appendResult lent f s ≡ refused LastNumber
+          pub refused-nine : h .last ≡ lastNumber → appendResult lent f h ts gs ≡ refused LastNumber
           unfolding append
-          refused-nine h = whole ∙ rw (le-ltb lent places lines, count, track, good, eq-eqb (s .last) lastNumber h)
+          refused-nine e = whole ∙ rw (le-ltb lent places lines, count, track, good, eq-eqb (h .last) lastNumber e)
 
-          module _ (number : eqb (s .last) lastNumber ≡ false) where
-            pub refused-seven : leavesLimits (bufferOf s) f ≡ true → appendResult lent f s ≡ refused ResultLimits
+          module _ (number : eqb (h .last) lastNumber ≡ false) where
+            pub refused-seven : leavesLimits held f ≡ true → appendResult lent f h ts gs ≡ refused ResultLimits
             unfolding append
-            refused-seven h = whole ∙ rw (le-ltb lent places lines, count, track, good, number, h)
+            refused-seven e = whole ∙ rw (le-ltb lent places lines, count, track, good, number, e)
 
-            pub goes-on : leavesLimits (bufferOf s) f ≡ false → appendResult lent f s ≡ settledResult (lastPass (bufferOf s) f)
+            pub goes-on : leavesLimits held f ≡ false → appendResult lent f h ts gs ≡ settledResult (lastPass held f)
             unfolding append appended settledResult
-            goes-on h = whole ∙ rw (le-ltb lent places lines, count, track, good, number, h)
+            goes-on e = whole ∙ rw (le-ltb lent places lines, count, track, good, number, e)
+
+-- ---- a head and arrays that hold a buffer
+
+module _ (h : Head) (ts : List (List ℤ)) (gs : List (List ℕ)) (c : Buffer) (e : Holds h ts gs c) where
+  holds-back : bufferOf (stateAt h ts gs) ≡ c
+  holds-back = (λ j. bufferOf (stateAt (e .head j) (e .times j) (e .tags j))) ∙ held-back c
+
+  holds-whole : Good c → wellFormedAt h ts gs ≡ true
+  holds-whole g = (λ j. wellFormedAt (e .head j) (e .times j) (e .tags j)) ∙ laid-well-formed c (facts-good c g)
 
 -- ---- a well-formed state and its last pass
 
-module _ (s : State) (w : wellFormed s ≡ true) where
-  pub state-good : Good (bufferOf s)
-  state-good = good-facts (bufferOf s) (well-formed-good s w)
+module _ (h : Head) (ts : List (List ℤ)) (gs : List (List ℕ)) (w : wellFormedAt h ts gs ≡ true) where
+  pub state-head : GoodHead h
+  state-head = record { held = bufferOf (stateAt h ts gs); laid = held-head h ts gs w; good = lent-good h ts gs w }
 
   module _ (f : Offered) where
-    pub state-track : (leb 1 (f .track) && leb (f .track) (s .ntracks)) ≡ true → HasTrack (headIn s) (f .track)
-    unfolding wellFormed
-    state-track t = (leb-true 1 (f .track) (and-left _ _ t), leb-true (f .track) (s .ntracks) (and-right (leb 1 (f .track)) _ t), laid-out s (and-left _ _ w) .ntracks)
+    pub state-track : (leb 1 (f .track) && leb (f .track) (h .ntracks)) ≡ true → HasTrack h (f .track)
+    state-track t =
+        let few = few-tracks (bufferOf (stateAt h ts gs)) (lent-good h ts gs w) in
+        let count = ap (λ (k : Head). k .ntracks) (held-head h ts gs w) in
+        (leb-true 1 (f .track) (and-left _ _ t), leb-true (f .track) (h .ntracks) (and-right (leb 1 (f .track)) _ t), omega (arith, few, count))
 
-    pub last-pass-back : passAt s (headOf (lastPass (bufferOf s) f .buffer)) (lastPass (bufferOf s) f .frame) ≡ lastPass (bufferOf s) f
-    last-pass-back =
-        let q = lastPass (bufferOf s) f in
-        let b = head-back (q .buffer) (stored s) ∙ ap (withFrames (q .buffer)) (sym (last-from (bufferOf s) f .buffer .frames)) in
-        λ j. record { buffer = b j; frame = q .frame }
+    abbrev last : Pass
+    last = lastPass (bufferOf (stateAt h ts gs)) f
 
-    pub last-pass-ready : HasTrack (headIn s) (f .track) → eqb (s .last) lastNumber ≡ false → leavesLimits (bufferOf s) f ≡ false
-        → Ready s (headOf (lastPass (bufferOf s) f .buffer)) (lastPass (bufferOf s) f .frame)
-    last-pass-ready t n inside =
-        let q = lastPass (bufferOf s) f in
-        let from = last-from (bufferOf s) f in
-        let good = last-pass-good (bufferOf s) f state-good inside in
-        let width : length (q .buffer .tracks) ≡ s .ntracks = from .buffer .width ∙ ap (λ (x : State). x .ntracks) (state-back s w) in
-        let track : HasTrack (headOf (q .buffer)) (q .frame .track) = rw (from .frame .track, width) t in
+    -- no pass changes the frames
+    last-held : Holds (headOf (last .buffer)) ts gs (last .buffer)
+    last-held =
+        let same : bufferOf (stateAt h ts gs) .frames ≡ last .buffer .frames = sym (last-from (bufferOf (stateAt h ts gs)) f .buffer .frames) in
         record {
-          whole = w;
-          laid = good-head (q .buffer) (good .buffer) .laid;
+          head = refl;
+          times = lent-back h ts gs w .times ∙ ap (λ (fs : List Frame). timesOf (padded places zeroFrame fs)) same;
+          tags = lent-back h ts gs w .tags ∙ ap (λ (fs : List Frame). tagsOf (padded places zeroFrame fs)) same;
+        }
+
+    pub last-pass-back : passAt (headOf (last .buffer)) ts gs (last .frame) ≡ last
+    last-pass-back = let b = holds-back (headOf (last .buffer)) ts gs (last .buffer) last-held in λ j. record { buffer = b j; frame = last .frame }
+
+    pub last-pass-ready : HasTrack h (f .track) → eqb (h .last) lastNumber ≡ false → leavesLimits (bufferOf (stateAt h ts gs)) f ≡ false
+        → Ready (headOf (last .buffer)) ts gs (last .frame)
+    last-pass-ready t n inside =
+        let b = bufferOf (stateAt h ts gs) in
+        let from = last-from b f in
+        let good = last-pass-good b f (held-good h ts gs w) inside in
+        let width : length (last .buffer .tracks) ≡ h .ntracks = from .buffer .width ∙ ap (λ (k : Head). k .ntracks) (sym (held-head h ts gs w)) in
+        let track : HasTrack (headOf (last .buffer)) (last .frame .track) = rw (from .frame .track, width) t in
+        record {
+          whole = holds-whole (headOf (last .buffer)) ts gs (last .buffer) last-held (good .buffer);
           track = track;
           pts = good .fit .pts;
-          number = rw (from .buffer .last) (omega (arith, eqb-false (s .last) lastNumber n, state-good .last));
+          number = rw (from .buffer .last) (omega (arith, eqb-false (h .last) lastNumber n, held-good h ts gs w .last));
         }

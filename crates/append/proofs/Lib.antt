@@ -1,3 +1,5 @@
 pub mod SettleLaws
 pub mod StoredLaws
 pub mod AnswerLaws
+pub mod SpanLaws
+pub mod HeldLaws

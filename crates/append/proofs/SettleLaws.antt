@@ -1,5 +1,5 @@
 -- The last pass settled: by the cause that steps 4 to 6 give, the frame is dropped or stored.
-use mathlib.Core.Path.{_≡_, refl, ap}
+use mathlib.Core.Path.{_≡_, refl}
 use mathlib.Core.Bool.{Bool, true, false, cond}
 use mathlib.Core.List.{List, [], _∷_, _++_}
 use Prim.Native.Nat.{ℕ, _≤_, _<_}
@@ -8,17 +8,13 @@ use lib.Dec.{ltb, eqb}
 use lib.ListN.{length, drop, set}
 use borrow.Author.Tests.{le-ltb, lt-ltb}
 use Rattle.laws.proofs.BoolLaws.{by-test}
-use Rattle.buffer_state.specs.declared.Frame.{Frame}
 use Rattle.buffer_state.specs.declared.Refusal.the-variants.{Full}
-use Rattle.buffer_state.specs.declared.State.{State}
 use Rattle.buffer_state.specs.Append.{Pass, beforeWindow, pastWindow, lacksRandomAccess, dropped, needing, stored, settled}
 use Rattle.buffer_state.specs.Buffer.{Buffer}
-use Rattle.buffer_state.specs.Layout.{stateOf}
 use Rattle.buffer_state.specs.Limits.{places}
 use Rattle.buffer_state.specs.Refusals.{refused, done}
-use Rattle.heads.specs.Heads.{headOf, underHead, dropCause, dropBuffer}
+use Rattle.heads.specs.Heads.{dropCause, dropBuffer}
 use Rattle.append.specs.Settled.{settledResult}
-use Rattle.store.specs.Marks.{holding}
 
 module _ (p : Pass) where
   -- steps 4 to 9 by the cause
@@ -71,12 +67,6 @@ module _ (p : Pass) where
         → settledResult p ≡ done (stored (record { buffer = needing false p; frame = p .frame }))
     unfolding settledResult
     store-result h = rw (settled-store e, le-ltb _ _ h)
-
--- ---- the state after it
-
--- the state that holds a buffer's frames, under that buffer's head
-pub under-head : (s : State) (l : List Frame) (c : Buffer) → l ≡ c .frames → underHead (holding s l) (headOf c) ≡ stateOf c
-under-head s l c e = ap (λ (x : List Frame). underHead (holding s x) (headOf c)) e
 
 -- one line written
 pub one-line : {A : Type 0} (l : List A) (x : A) → 1 ≤ length l → set l 0 x ≡ (x ∷ []) ++ drop 1 l

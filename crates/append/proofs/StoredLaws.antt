@@ -1,72 +1,81 @@
 -- The store of a well-formed state, the pass that stores a frame in it, and how many frames that leaves.
 use mathlib.Core.Path.{_≡_, sym, ap, _∙_}
 use mathlib.Core.Bool.{true, false}
-use mathlib.Core.List.{[]}
-use Prim.Native.Nat.{suc, _-_, _≤_}
+use mathlib.Core.List.{List}
+use Prim.Native.Nat.{ℕ, suc, _-_, _<_}
 use native.Mathlib.Omega.{arith}
+use lib.IntN.{ℤ}
 use lib.ListN.{length, take, length-set}
+use borrow.Author.Tests.{lt-ltb}
+use Rattle.laws.proofs.ListLaws.{first-length}
+use Rattle.buffer_state.specs.declared.Frame.{Frame}
+use Rattle.buffer_state.specs.declared.Head.{Head}
 use Rattle.buffer_state.specs.declared.Offered.{Offered}
-use Rattle.buffer_state.specs.declared.State.{State}
 use Rattle.buffer_state.specs.Append.{Pass, needing, overlapMarks, stepNine, storedAs, nextNumber, stored}
 use Rattle.buffer_state.specs.Buffer.{Buffer}
-use Rattle.buffer_state.specs.Layout.{wellFormed}
-use Rattle.buffer_state.specs.Limits.{places}
+use Rattle.buffer_state.specs.Layout.{bufferOf}
+use Rattle.buffer_state.specs.Lent.{framesOf, stateAt, headOf, wellFormedAt}
 use Rattle.buffer_state.specs.Store.{kept}
-use Rattle.buffer_laws.proofs.LayoutLaws.{state-back}
+use Rattle.buffer_state.specs.WellFormed.{goodFrame}
+use Rattle.buffer_laws.proofs.GoodLaws.{Good, good-facts, frame-facts}
+use Rattle.buffer_laws.proofs.LayoutLaws.{few-tracks}
+use Rattle.buffer_laws.proofs.LentLaws.{lent-plain, lent-good, lent-zeros, lent-back}
 use Rattle.buffer_laws.proofs.OrderLaws.{insert-length}
-use Rattle.store.specs.Marks as Marks
-use Rattle.store.specs.Marks.{holding}
-use Rattle.store.proofs.MarksLaws.{good-store}
-use Rattle.heads.specs.declared.Head.{Head}
-use Rattle.heads.specs.Heads.{headOf, HasTrack}
-use Rattle.append.specs.Settled.{passAt, Ready}
-use Rattle.heads.proofs.HeadLaws.{head-back}
+use Rattle.buffer_laws.proofs.RowLaws.{frames-length}
+use Rattle.buffer_laws.proofs.TestLaws.{all-weaker}
+use Rattle.heads.specs.Heads.{HasTrack}
+use Rattle.taking.specs.declared.Span.{Span}
+use Rattle.taking.specs.Taking.{onTrack, inSpans, FirstIn}
+use Rattle.taking.proofs.GoneLaws.{some-gone}
+use Rattle.append.specs.Settled.{passAt, Ready, Stored, overlapAt}
 
 -- ---- the store of a well-formed state
 
-module _ (s : State) (w : wellFormed s ≡ true) where
-  pub stored-length : length (Marks.stored s) ≡ s .nframes
-  stored-length = ap (λ (t : State). t .nframes) (state-back s w)
+module _ (h : Head) (ts : List (List ℤ)) (gs : List (List ℕ)) (w : wellFormedAt h ts gs ≡ true) where
+  abbrev held : Buffer
+  held = bufferOf (stateAt h ts gs)
 
-  pub stored-few : length (Marks.stored s) ≤ places
-  stored-few = omega (arith, stored-length, good-store s w .few)
+  pub held-good : Good held
+  held-good = good-facts held (lent-good h ts gs w)
 
-  pub held : s ≡ holding s (Marks.stored s)
-  held =
-      let e = sym (state-back s w) in
-      λ j. record {
-        frames = e j .frames;
-        nframes = e j .nframes;
-        tracks = s .tracks;
-        ntracks = s .ntracks;
-        mode = s .mode;
-        group = s .group;
-        last = s .last;
-        settings = s .settings;
+  pub held-head : h ≡ headOf held
+  held-head = lent-back h ts gs w .head
+
+  pub held-count : h .nframes ≡ length (held .frames)
+  held-count = ap (λ (k : Head). k .nframes) held-head
+
+  pub held-store : Stored (h .nframes) ts gs
+  held-store =
+      let tracks = few-tracks held (lent-good h ts gs w) in
+      let p = lent-plain h ts gs w in
+      record {
+        few = omega (arith, held-count, held-good .frames .few);
+        long = p .long;
+        hold = record { times = p .times; tags = p .tags; zeros = lent-zeros h ts gs w };
+        order = held-good .frames .order;
+        tracks = all-weaker (goodFrame (length (held .tracks)) (held .last)) onTrack
+            (λ f e. lt-ltb (f .track) 5 (omega (arith, tracks, frame-facts _ _ f e .track-to))) (held .frames) (held-good .frames .each);
       }
 
 -- ---- need-random-access turned off for the frame's track
 
-module _ (s : State) (h : Head) (g : Offered) (r : Ready s h g) (k : Head) (e : k ≡ headOf (needing false (passAt s h g))) where
-  pub needing-pass : passAt s k g ≡ record { buffer = needing false (passAt s h g); frame = g }
-  needing-pass =
-      ap (λ (x : Head). passAt s x g) e
-      ∙ ap (λ (b : Buffer). record { buffer = b; frame = g }) (head-back (needing false (passAt s h g)) (Marks.stored s))
-
-  pub needing-ready : Ready s k g
-  needing-ready =
-      let width : length (needing false (passAt s h g) .tracks) ≡ h .ntracks = length-set (take (h .ntracks) (h .tracks)) (g .track - 1) _ ∙ ap (λ (x : Head). x .ntracks) (sym (r .laid)) in
-      let track : HasTrack (headOf (needing false (passAt s h g))) (g .track) = rw width (r .track) in
-      rw e (record {
-        whole = r .whole;
-        laid = ap headOf (sym (head-back (needing false (passAt s h g)) []));
-        track = track;
-        pts = r .pts;
-        number = r .number;
-      })
+module _ (h : Head) (ts : List (List ℤ)) (gs : List (List ℕ)) (g : Offered) (r : Ready h ts gs g) (k : Head) (e : k ≡ headOf (needing false (passAt h ts gs g))) where
+  pub needing-track : HasTrack k (g .track)
+  needing-track =
+      let width : length (needing false (passAt h ts gs g) .tracks) ≡ h .ntracks =
+      length-set (take (h .ntracks) (h .tracks)) (g .track - 1) _ ∙ ap (λ (x : Head). x .ntracks) (sym (held-head h ts gs (r .whole))) in
+      rw (e, width) (r .track)
 
 -- ---- the pass that stores
 
 pub stored-count : (q : Pass) → length (stored q .after .frames) ≡ suc (length (kept (overlapMarks q)))
 unfolding stored stepNine
 stored-count q = insert-length (storedAs (nextNumber (q .buffer)) (q .frame)) (kept (overlapMarks q))
+
+-- where a frame goes, a place is freed
+pub freed : (spans : List Span) (n first : ℕ) (ts : List (List ℤ)) (gs : List (List ℕ)) → Stored n ts gs
+    → FirstIn (inSpans spans) (take n (framesOf ts gs)) n first → first < n → length (kept (overlapAt spans n ts gs)) < 1024
+freed spans n first ts gs s f h =
+    let fs : List Frame = framesOf ts gs in
+    let long = frames-length ts gs (s .long .0 ∙ sym (s .long .1)) in
+    omega (arith, some-gone (inSpans spans) 4 (omega arith) (take n fs) (f .here h), first-length fs n (omega (arith, long, s .long .0, s .few)), s .few)

@@ -1,27 +1,34 @@
-// Appending one frame. Steps 1 to 6 work on the head of the state (the crate heads); steps 7 and 8 find the causes by which stored frames
-// go, and nothing is written before refusal 8 is decided.
+// Appending one frame. Steps 1 to 6 work on the head of the state (the crate heads); the frames are lent as two arrays and changed in
+// place, after every refusal is decided.
 ghost use mathlib.Core.Path.{_≡_};
-ghost use mathlib.Core.Bool.{true, _&&_, cond};
+ghost use mathlib.Core.Bool.{true, _&&_};
 ghost use Prim.Native.Nat.{_≤_, _<_};
-ghost use lib.ListN.{length};
+ghost use lib.ListN.{length, take};
 ghost use lib.Dec.{leb, eqb};
-ghost use Rattle.buffer_state.specs.Answers.{counted, listAfter, appendResult};
-ghost use Rattle.buffer_state.specs.Append.{between, overlapped, overlapMarks, offerable};
-ghost use Rattle.buffer_state.specs.Limits.{offeredTime, resultTime};
-ghost use Rattle.buffer_state.specs.Store.{markWhere, walk, kept, insertSorted};
-ghost use Rattle.buffer_state.specs.WellFormed.{sorted};
-ghost use Rattle.store.specs.Marks.{stored, ZerosPast, markedBy, leaving, linesThen};
-ghost use Rattle.heads.specs.Heads.{dropCause};
-ghost use Rattle.append.specs.Settled.{settledResult, passAt, Ready};
+ghost use Rattle.buffer_state.specs.declared.Frame.{Frame};
+ghost use Rattle.buffer_state.specs.declared.Head.{Head};
+ghost use Rattle.buffer_state.specs.Answers.{counted, timesAfter, tagsAfter, listAfter, appendResult};
+ghost use Rattle.buffer_state.specs.Append.{overlapped, offerable};
+ghost use Rattle.buffer_state.specs.Buffer.{Buffer};
+ghost use Rattle.buffer_state.specs.Layout.{zeroFrame, padded};
+ghost use Rattle.buffer_state.specs.Lent.{framesOf, timesOf, tagsOf, headOf, wellFormedAt};
+ghost use Rattle.buffer_state.specs.Limits.{offeredTime, resultTime, lastNumber, places};
+ghost use Rattle.buffer_state.specs.Refusals.{refused};
+ghost use Rattle.buffer_state.specs.Store.{kept, linesOf, insertSorted};
+ghost use Rattle.heads.specs.Heads.{HasTrack, dropCause};
+ghost use Rattle.taking.specs.Marks.{linesThen};
+ghost use Rattle.taking.specs.Taking.{inSpan, inSpans, FirstIn};
+ghost use Rattle.append.specs.Settled.{settledResult, passAt, Ready, Stored, overlapAt};
 use buffer_state::Count;
 use buffer_state::Counted;
 use buffer_state::Frame;
+use buffer_state::Head;
 use buffer_state::Offered;
 use buffer_state::Refusal;
-use buffer_state::State;
 use buffer_state::Track;
-use heads::Head;
 use heads::Passed;
+use taking::Span;
+use taking::Taken;
 
 const LAST_NUMBER: u32 = 4294967295;
 
@@ -29,152 +36,121 @@ const PLACES: usize = 1024; // in the store, and lines that a lent fate list nee
 
 // ---- a frame that is dropped
 
-// The frame is dropped: its line is the only one.
-fn drop_frame(s: State, h: Head, g: Offered, cause: u8, fates: &mut [[u32; 2]]) -> Counted
-    requires { ⌜ Ready s h g × (cause ≡ dropCause (passAt s h g)) × (1 ≤ cause) × (1024 ≤ length (now fates)) ⌝ }
-    ensures { λ r. ⌜ r ≡ counted s (settledResult (passAt s h g)) ⌝ }
-    ensures { λ r. ⌜ now (fates .exit) ≡ listAfter (settledResult (passAt s h g)) (now (fates .entry)) ⌝ }
+// Its line is the only one. The promise is made of every buffer that has the head.
+fn drop_frame(h: Head, g: Offered, cause: u32, fates: &mut [[u32; 2]]) -> Counted
+    requires { ⌜ HasTrack h (g .track) × (h .nframes ≤ places) × (h .last < lastNumber) × (1 ≤ cause) × (1024 ≤ length (now fates)) ⌝ }
+    ensures answer { λ r. ⌜ ((b : Buffer) (old : Head) → h ≡ headOf b → cause ≡ dropCause (record { buffer = b; frame = g }) → r ≡ counted old (settledResult (record { buffer = b; frame = g }))) ⌝ }
+    ensures lines { λ r. ⌜ ((b : Buffer) → h ≡ headOf b → cause ≡ dropCause (record { buffer = b; frame = g }) → now (fates .exit) ≡ listAfter (settledResult (record { buffer = b; frame = g })) (now (fates .entry))) ⌝ }
 {
     let t = heads::dropped_head(h, g.track, cause);
-    let line = [t.last, store::wide(cause)];
+    let line = [t.last, cause];
     fates[0] = line;
-    let left = heads::with_head(s, t);
     Counted {
         answer: Count::Done(1),
-        state: left,
+        head: t,
     }
 }
 
 // ---- steps 7 and 8
 
-// From a up to but not including b.
-fn is_between(a: i64, b: i64, z: i64) -> bool
-    ensures { λ r. ⌜ r ≡ between a b z ⌝ }
-{
-    validation::at_most(a, z) & validation::below(z, b)
-}
-
-// From P up to frame end, or from highest end where it is set and at most P.
-fn overlaps(t: Track, f: Offered, g: Frame) -> bool
+// The stretch of presentation times whose frames go: from P, or from highest end where it is set and at most P, up to frame end.
+fn span_of(t: Track, f: Offered) -> Span
     requires { ⌜ resultTime (f .pts) ≡ true ⌝ }
-    ensures { λ r. ⌜ r ≡ overlapped t f g ⌝ }
+    ensures { λ r. ⌜ ((g : Frame) → (eqb (g .track) (f .track) && inSpan r g) ≡ overlapped t f g) ⌝ }
 {
-    if g.track != f.track {
-        return false;
-    }
     let e = heads::end_offered(f);
     if !t.known {
-        return is_between(f.pts, e, g.pts);
+        return Span {
+            start: f.pts,
+            end: e,
+        };
     }
-    validation::at_most(t.end, f.pts) & is_between(t.end, e, g.pts)
+    if limits::below(f.pts, t.end) {
+        return Span { start: e, end: e };
+    }
+    Span {
+        start: t.end,
+        end: e,
+    }
 }
 
-fn overlap_cause(t: Track, f: Offered, g: Frame) -> u8
-    requires { ⌜ resultTime (f .pts) ≡ true ⌝ }
-    ensures { λ r. ⌜ r ≡ cond (overlapped t f g) 4 0 ⌝ }
+// One track's stretch among those of all tracks; the others lose nothing.
+fn spans_with(track: u32, s: Span) -> [Span; 5]
+    requires { ⌜ track < 5 ⌝ }
+    ensures { λ r. ⌜ ((g : Frame) → inSpans r g ≡ (eqb (g .track) track && inSpan s g)) ⌝ }
 {
-    if overlaps(t, f, g) {
-        return 4;
-    }
-    0
-}
-
-// The causes by which stored frames go, and how many frames have none.
-struct Causes {
-    of: [u8; 1024],
-    left: usize,
-}
-
-// A frame counted, where it stays.
-fn stays(cause: u8) -> usize
-    ensures { λ r. ⌜ r ≡ cond (eqb cause 0) 1 0 ⌝ }
-{
-    if cause == 0 {
-        return 1;
-    }
-    0
-}
-
-// Steps 7 and 8 in one pass: a frame's cause is 4 where the new one overlaps it, and the walk goes on from the frame before.
-fn overlap_causes(s: State, t: Track, f: Offered) -> Causes
-    requires { ⌜ (s .nframes ≤ 1024) × (sorted (stored s) ≡ true) × (resultTime (f .pts) ≡ true) ⌝ }
-    ensures { λ r. ⌜ markedBy (stored s) (r .of) ≡ walk (markWhere (overlapped t f) 4 (stored s)) ⌝ }
-    ensures { λ r. ⌜ r .left ≡ length (kept (markedBy (stored s) (r .of))) ⌝ }
-{
-    let n = s.nframes;
-    let mut causes = [0u8; 1024];
-    let mut track: u8 = 0;
-    let mut follows = false;
-    let mut left: usize = 0;
-    let mut i: usize = 0;
-    while i < n {
-        let g = s.frames[i];
-        let mark = overlap_cause(t, f, g);
-        let cause = store::walked(g, mark, track, follows);
-        causes[i] = cause;
-        track = g.track;
-        follows = cause != 0;
-        left += stays(cause);
-        i += 1;
-    }
-    Causes {
-        of: causes,
-        left: left,
-    }
-}
-
-// Steps 7 and 8 for the frame's own track.
-fn taken(s: State, h: Head, g: Offered) -> Causes
-    requires { ⌜ Ready s h g ⌝ }
-    ensures { λ r. ⌜ markedBy (stored s) (r .of) ≡ overlapMarks (passAt s h g) ⌝ }
-    ensures { λ r. ⌜ r .left ≡ length (kept (markedBy (stored s) (r .of))) ⌝ }
-{
-    let t = heads::track_of(h, g.track);
-    overlap_causes(s, t, g)
+    let none = Span { start: 0, end: 0 };
+    let mut spans = [none; 5];
+    let i = track as usize;
+    spans[i] = s;
+    spans
 }
 
 // ---- a frame that is stored
 
-// The frame takes its place among the stored frames that have no cause. Where none has one, the insertion is all.
-fn put_in(s: State, f: Frame, c: Causes, fates: &mut [[u32; 2]]) -> Counted
-    requires { ⌜ (s .nframes ≤ 1024) × ZerosPast s × (sorted (stored s) ≡ true) × (1024 ≤ length (now fates)) ⌝ }
-    requires { ⌜ (c .left ≡ length (kept (markedBy (stored s) (c .of)))) × (c .left < 1024) ⌝ }
-    ensures { λ r. ⌜ r ≡ leaving s (insertSorted f (kept (markedBy (stored s) (c .of)))) (markedBy (stored s) (c .of)) ⌝ }
-    ensures { λ r. ⌜ now (fates .exit) ≡ linesThen (markedBy (stored s) (c .of)) (now (fates .entry)) ⌝ }
+// The frames in the stretches are taken out, then the frame takes its place among those left.
+fn put_in(
+    times: &mut [[i64; 2]],
+    tags: &mut [[u32; 4]],
+    n: usize,
+    first: usize,
+    f: Frame,
+    spans: [Span; 5],
+    fates: &mut [[u32; 2]],
+) -> Taken
+    requires { ⌜ Stored n (now times) (now tags) × FirstIn (inSpans spans) (take n (framesOf (now times) (now tags))) n first × (first < n) × (1024 ≤ length (now fates)) ⌝ }
+    ensures times { λ r. ⌜ now (times .exit) ≡ timesOf (padded places zeroFrame (insertSorted f (kept (overlapAt spans n (now (times .entry)) (now (tags .entry)))))) ⌝ }
+    ensures tags { λ r. ⌜ now (tags .exit) ≡ tagsOf (padded places zeroFrame (insertSorted f (kept (overlapAt spans n (now (times .entry)) (now (tags .entry)))))) ⌝ }
+    ensures lines { λ r. ⌜ now (fates .exit) ≡ linesThen (overlapAt spans n (now (times .entry)) (now (tags .entry))) (now (fates .entry)) ⌝ }
+    ensures counts { λ r. ⌜ (r .left ≡ length (kept (overlapAt spans n (now (times .entry)) (now (tags .entry))))) × (r .lines ≡ length (linesOf (overlapAt spans n (now (times .entry)) (now (tags .entry))))) ⌝ }
 {
-    if c.left == s.nframes {
-        let more = store::insert(s, f);
-        return Counted {
-            answer: Count::Done(0),
-            state: more,
-        };
-    }
-    let causes = c.of;
-    let out = store::take_marked(s, causes, fates);
-    let answer = out.answer;
-    let rest = out.state;
-    let after = store::insert(rest, f);
-    Counted {
-        answer: answer,
-        state: after,
-    }
+    let out = taking::take_out(times, tags, n, first, spans, 4, fates);
+    let left = out.left;
+    places::insert(times, tags, left, f);
+    out
 }
 
-// The frame is stored, unless the store would be left too full: places that steps 7 and 8 free count.
-fn store_frame(s: State, h: Head, g: Offered, fates: &mut [[u32; 2]]) -> Counted
-    requires { ⌜ Ready s h g × (dropCause (passAt s h g) ≡ 0) × (1024 ≤ length (now fates)) ⌝ }
-    ensures { λ r. ⌜ r ≡ counted s (settledResult (passAt s h g)) ⌝ }
-    ensures { λ r. ⌜ now (fates .exit) ≡ listAfter (settledResult (passAt s h g)) (now (fates .entry)) ⌝ }
+// The frame is stored, unless the store is full and no place is freed: a frame that is taken out frees one.
+fn store_frame(
+    old: Head,
+    h: Head,
+    g: Offered,
+    times: &mut [[i64; 2]],
+    tags: &mut [[u32; 4]],
+    fates: &mut [[u32; 2]],
+) -> Counted
+    requires { ⌜ Ready h (now times) (now tags) g × (dropCause (passAt h (now times) (now tags) g) ≡ 0) × (1024 ≤ length (now fates)) ⌝ }
+    ensures answer { λ r. ⌜ r ≡ counted old (settledResult (passAt h (now (times .entry)) (now (tags .entry)) g)) ⌝ }
+    ensures times { λ r. ⌜ now (times .exit) ≡ timesAfter (settledResult (passAt h (now (times .entry)) (now (tags .entry)) g)) (now (times .entry)) ⌝ }
+    ensures tags { λ r. ⌜ now (tags .exit) ≡ tagsAfter (settledResult (passAt h (now (times .entry)) (now (tags .entry)) g)) (now (tags .entry)) ⌝ }
+    ensures lines { λ r. ⌜ now (fates .exit) ≡ listAfter (settledResult (passAt h (now (times .entry)) (now (tags .entry)) g)) (now (fates .entry)) ⌝ }
 {
-    let k = heads::need_track(h, g.track, false);
-    let c = taken(s, k, g);
-    if PLACES <= c.left {
-        return store::refuse(s, Refusal::Full);
+    let n = h.nframes;
+    let track = g.track;
+    let k = heads::need_track(h, track, false);
+    let s = span_of(heads::track_of(k, track), g);
+    let spans = spans_with(track, s);
+    let first = taking::first_in(times, tags, n, spans);
+    if first == n {
+        if PLACES <= n {
+            return buffer_state::refuse(old, Refusal::Full);
+        }
+        let nine = heads::step_nine(k, g, n);
+        let f = heads::stored_as(nine.last, g);
+        places::insert(times, tags, n, f);
+        return Counted {
+            answer: Count::Done(0),
+            head: nine,
+        };
     }
-    let nine = heads::step_nine(k, g);
-    let f = heads::stored_as(nine.last, g);
-    let t = heads::with_head(s, nine);
-    put_in(t, f, c, fates)
+    let number = k.last + 1;
+    let f = heads::stored_as(number, g);
+    let out = put_in(times, tags, n, first, f, spans, fates);
+    let nine = heads::step_nine(k, g, out.left);
+    Counted {
+        answer: Count::Done(out.lines),
+        head: nine,
+    }
 }
 
 // ---- the call
@@ -182,60 +158,92 @@ fn store_frame(s: State, h: Head, g: Offered, fates: &mut [[u32; 2]]) -> Counted
 fn offered_time(z: i64) -> bool
     ensures { λ r. ⌜ r ≡ offeredTime z ⌝ }
 {
-    validation::at_most(-1000000000000, z) & validation::at_most(z, 1000000000000)
+    limits::at_most(-1000000000000, z) & limits::at_most(z, 1000000000000)
 }
 
 fn is_offerable(f: Offered) -> bool
     ensures { λ r. ⌜ r ≡ offerable f ⌝ }
 {
-    offered_time(f.pts) & (offered_time(f.dts) & validation::good_duration(f.duration))
+    offered_time(f.pts) & (offered_time(f.dts) & limits::good_duration(f.duration))
 }
 
-fn has_track(n: u8, tracks: usize) -> bool
+fn has_track(n: u32, tracks: usize) -> bool
     ensures { λ r. ⌜ r ≡ (leb 1 n && leb n tracks) ⌝ }
 {
     (1 <= n) & (n as usize <= tracks)
 }
 
 // The last pass, once it is inside the limits, drops or stores the frame.
-fn settle(s: State, p: Passed, fates: &mut [[u32; 2]]) -> Counted
-    requires { ⌜ Ready s (p .head) (p .frame) × (1024 ≤ length (now fates)) ⌝ }
-    ensures { λ r. ⌜ r ≡ counted s (settledResult (passAt s (p .head) (p .frame))) ⌝ }
-    ensures { λ r. ⌜ now (fates .exit) ≡ listAfter (settledResult (passAt s (p .head) (p .frame))) (now (fates .entry)) ⌝ }
+fn settle(
+    old: Head,
+    p: Passed,
+    times: &mut [[i64; 2]],
+    tags: &mut [[u32; 4]],
+    fates: &mut [[u32; 2]],
+) -> Counted
+    requires { ⌜ Ready (p .head) (now times) (now tags) (p .frame) × (1024 ≤ length (now fates)) ⌝ }
+    ensures answer { λ r. ⌜ r ≡ counted old (settledResult (passAt (p .head) (now (times .entry)) (now (tags .entry)) (p .frame))) ⌝ }
+    ensures times { λ r. ⌜ now (times .exit) ≡ timesAfter (settledResult (passAt (p .head) (now (times .entry)) (now (tags .entry)) (p .frame))) (now (times .entry)) ⌝ }
+    ensures tags { λ r. ⌜ now (tags .exit) ≡ tagsAfter (settledResult (passAt (p .head) (now (times .entry)) (now (tags .entry)) (p .frame))) (now (tags .entry)) ⌝ }
+    ensures lines { λ r. ⌜ now (fates .exit) ≡ listAfter (settledResult (passAt (p .head) (now (times .entry)) (now (tags .entry)) (p .frame))) (now (fates .entry)) ⌝ }
 {
     let h = p.head;
     let g = p.frame;
     let cause = heads::drop_cause(h, g);
     if cause == 0 {
-        return store_frame(s, h, g, fates);
+        return store_frame(old, h, g, times, tags, fates);
     }
-    drop_frame(s, h, g, cause, fates)
+    drop_frame(h, g, cause, fates)
+}
+
+// Append one frame to a state that was tested, with lines enough: refusals 3, 4, 9 and 7 in that order, then 8 or the steps' outcome.
+pub fn append_tested(
+    h: Head,
+    f: Offered,
+    times: &mut [[i64; 2]],
+    tags: &mut [[u32; 4]],
+    fates: &mut [[u32; 2]],
+) -> Counted
+    requires { ⌜ (wellFormedAt h (now times) (now tags) ≡ true) × (1024 ≤ length (now fates)) ⌝ }
+    ensures answer { λ r. ⌜ r ≡ counted h (appendResult (length (now (fates .entry))) f h (now (times .entry)) (now (tags .entry))) ⌝ }
+    ensures times { λ r. ⌜ now (times .exit) ≡ timesAfter (appendResult (length (now (fates .entry))) f h (now (times .entry)) (now (tags .entry))) (now (times .entry)) ⌝ }
+    ensures tags { λ r. ⌜ now (tags .exit) ≡ tagsAfter (appendResult (length (now (fates .entry))) f h (now (times .entry)) (now (tags .entry))) (now (tags .entry)) ⌝ }
+    ensures lines { λ r. ⌜ now (fates .exit) ≡ listAfter (appendResult (length (now (fates .entry))) f h (now (times .entry)) (now (tags .entry))) (now (fates .entry)) ⌝ }
+{
+    if !has_track(f.track, h.ntracks) {
+        return buffer_state::refuse(h, Refusal::NoTrack);
+    }
+    if !is_offerable(f) {
+        return buffer_state::refuse(h, Refusal::FrameLimits);
+    }
+    if h.last == LAST_NUMBER {
+        return buffer_state::refuse(h, Refusal::LastNumber);
+    }
+    let p = heads::last_pass(h, f);
+    if !p.fits {
+        return buffer_state::refuse(h, Refusal::ResultLimits);
+    }
+    settle(h, p, times, tags, fates)
 }
 
 // Append one frame: refusals 1, 2, 3, 4, 9 and 7 in that order, then 8 or the steps' outcome.
-pub fn append(s: State, f: Offered, fates: &mut [[u32; 2]]) -> Counted
-    ensures { λ r. ⌜ r ≡ counted s (appendResult (length (now (fates .entry))) f s) ⌝ }
-    ensures { λ r. ⌜ now (fates .exit) ≡ listAfter (appendResult (length (now (fates .entry))) f s) (now (fates .entry)) ⌝ }
+pub fn append(
+    h: Head,
+    f: Offered,
+    times: &mut [[i64; 2]; 1024],
+    tags: &mut [[u32; 4]; 1024],
+    fates: &mut [[u32; 2]],
+) -> Counted
+    ensures answer { λ r. ⌜ r ≡ counted h (appendResult (length (now (fates .entry))) f h (now (times .entry)) (now (tags .entry))) ⌝ }
+    ensures times { λ r. ⌜ now (times .exit) ≡ timesAfter (appendResult (length (now (fates .entry))) f h (now (times .entry)) (now (tags .entry))) (now (times .entry)) ⌝ }
+    ensures tags { λ r. ⌜ now (tags .exit) ≡ tagsAfter (appendResult (length (now (fates .entry))) f h (now (times .entry)) (now (tags .entry))) (now (tags .entry)) ⌝ }
+    ensures lines { λ r. ⌜ now (fates .exit) ≡ listAfter (appendResult (length (now (fates .entry))) f h (now (times .entry)) (now (tags .entry))) (now (fates .entry)) ⌝ }
 {
-    if !validation::well_formed(s) {
-        return store::refuse(s, Refusal::IllFormed);
+    if !validation::well_formed(h, times, tags) {
+        return buffer_state::refuse(h, Refusal::IllFormed);
     }
     if fates.len() < PLACES {
-        return store::refuse(s, Refusal::ShortFates);
+        return buffer_state::refuse(h, Refusal::ShortFates);
     }
-    if !has_track(f.track, s.ntracks) {
-        return store::refuse(s, Refusal::NoTrack);
-    }
-    if !is_offerable(f) {
-        return store::refuse(s, Refusal::FrameLimits);
-    }
-    if s.last == LAST_NUMBER {
-        return store::refuse(s, Refusal::LastNumber);
-    }
-    let h = heads::head_of(s);
-    let p = heads::last_pass(h, f);
-    if !p.fits {
-        return store::refuse(s, Refusal::ResultLimits);
-    }
-    settle(s, p, fates)
+    append_tested(h, f, times, tags, fates)
 }

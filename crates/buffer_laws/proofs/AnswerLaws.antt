@@ -1,14 +1,26 @@
--- An answer follows from its result: what a call that writes lines answers, and what its fate list holds after it.
+-- An answer follows from its result: what a call that writes lines answers, and what the arrays and its fate list hold after it.
 use mathlib.Core.Path.{_≡_, sym, ap, _∙_}
 use mathlib.Core.List.{List}
 use Prim.Native.Nat.{ℕ}
+use lib.IntN.{ℤ}
 use Rattle.buffer_state.specs.declared.Counted.{Counted}
-use Rattle.buffer_state.specs.declared.State.{State}
-use Rattle.buffer_state.specs.Answers.{counted, listAfter}
+use Rattle.buffer_state.specs.declared.Head.{Head}
+use Rattle.buffer_state.specs.Answers.{counted, timesAfter, tagsAfter, listAfter}
 use Rattle.buffer_state.specs.Append.{Outcome}
 use Rattle.buffer_state.specs.Refusals.{Result}
 
--- a result known: the answer and the list after it
-pub answered : (s : State) (before : List (List ℕ)) {x : Result Outcome} (y : Result Outcome) → x ≡ y → {r : Counted} {l : List (List ℕ)}
-    → r ≡ counted s y → l ≡ listAfter y before → (r ≡ counted s x) × (l ≡ listAfter x before)
-answered s before y d e f = (e ∙ ap (counted s) (sym d), f ∙ ap (λ (z : Result Outcome). listAfter z before) (sym d))
+module _ (h : Head) (ts : List (List ℤ)) (gs ls : List (List ℕ)) where
+  -- what a result leaves: the answer with the head, both arrays, the fate list
+  abbrev pub Leaves : Result Outcome → Counted → List (List ℤ) → List (List ℕ) → List (List ℕ) → Type 0
+  Leaves x r times tags fates = (r ≡ counted h x) × ((times ≡ timesAfter x ts) × ((tags ≡ tagsAfter x gs) × (fates ≡ listAfter x ls)))
+
+  -- a result known
+  pub answered : {x : Result Outcome} (y : Result Outcome) → x ≡ y → {r : Counted} {times : List (List ℤ)} {tags fates : List (List ℕ)}
+      → r ≡ counted h y → times ≡ timesAfter y ts → tags ≡ tagsAfter y gs → fates ≡ listAfter y ls → Leaves x r times tags fates
+  answered y d a b c e = (
+    a ∙ ap (counted h) (sym d),
+    (
+      b ∙ ap (λ (z : Result Outcome). timesAfter z ts) (sym d),
+      (c ∙ ap (λ (z : Result Outcome). tagsAfter z gs) (sym d), e ∙ ap (λ (z : Result Outcome). listAfter z ls) (sym d)),
+    ),
+  )

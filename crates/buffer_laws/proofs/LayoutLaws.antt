@@ -14,13 +14,11 @@ use Rattle.seconds.specs.Seconds.{sameInt}
 use Rattle.seconds.proofs.SecondsLaws.{same-int}
 use Rattle.buffer_state.specs.declared.Frame.{Frame}
 use Rattle.buffer_state.specs.declared.Track.{Track}
-use Rattle.buffer_state.specs.declared.State.{State}
 use Rattle.buffer_state.specs.Limits.{places, mostTracks}
 use Rattle.buffer_state.specs.Buffer.{Buffer, zeroTrack}
 use Rattle.buffer_state.specs.WellFormed.{allOf, zeroInt, goodCount, goodTracks, goodFrames, goodBuffer}
-use Rattle.buffer_state.specs.Layout.{zeroFrame, padded, stateOf, bufferOf, isZeroFrame, isZeroTrack, laidOut, wellFormed, onState}
-use Rattle.buffer_state.specs.Refusals.{Result, refused}
-use Rattle.buffer_state.specs.declared.Refusal.the-variants.{IllFormed}
+use Rattle.buffer_state.specs.Layout.{zeroFrame, padded, stateOf, bufferOf, isZeroFrame, isZeroTrack, laidOut, wellFormed}
+use Rattle.buffer_state.specs.State.{State}
 use Rattle.buffer_laws.proofs.TestLaws.{all-replicate, all-only}
 
 -- ---- one array
@@ -165,19 +163,3 @@ good-well-formed b h =
 pub well-formed-good : (s : State) → wellFormed s ≡ true → goodBuffer (bufferOf s) ≡ true
 unfolding wellFormed
 well-formed-good s h = and-right (laidOut s) _ h
-
--- ---- a call on a state
-
--- on a state that is not well-formed it is refused 1
-pub ill-formed-refused : {A : Type 0} (call : Buffer → Result A) (s : State) → wellFormed s ≡ false → onState call s ≡ refused IllFormed
-unfolding onState
-ill-formed-refused call s h = rw h
-
--- on a well-formed state it does what it does on the buffer that the state holds
-pub on-well-formed : {A : Type 0} (call : Buffer → Result A) (s : State) → wellFormed s ≡ true → onState call s ≡ call (bufferOf s)
-unfolding onState
-on-well-formed call s h = rw h
-
--- and on a good buffer, laid out, what it does on that buffer
-pub on-laid-out : {A : Type 0} (call : Buffer → Result A) (b : Buffer) → goodBuffer b ≡ true → onState call (stateOf b) ≡ call b
-on-laid-out call b h = on-well-formed call (stateOf b) (good-well-formed b h) ∙ ap call (buffer-back b)

@@ -1,5 +1,7 @@
 pub mod TestLaws
 pub mod LayoutLaws
+pub mod RowLaws
+pub mod LentLaws
 pub mod AnswerLaws
 pub mod RisingLaws
 pub mod RangeLaws

@@ -15,7 +15,7 @@ use Rattle.laws.proofs.BoolLaws.{by-test, and-left, and-right}
 use Rattle.seconds.specs.Seconds.{Bound, convertible, convertibleEnd, microsOf, boundOf}
 use Rattle.buffer_state.specs.declared.Frame.{Frame}
 use Rattle.buffer_state.specs.declared.Offered.{Offered}
-use Rattle.buffer_state.specs.declared.State.{State}
+use Rattle.buffer_state.specs.State.{State}
 use Rattle.buffer_state.specs.Buffer.{Buffer, hasTrack}
 use Rattle.buffer_state.specs.Layout.{stateOf, bufferOf, wellFormed}
 use Rattle.buffer_state.specs.Limits.{places, lastNumber}

@@ -1,4 +1,5 @@
--- What the calls on a State answer, in the types of the code: the result of each call's definition, refusal 1 first.
+-- What the calls on a head and two lent arrays answer, in the types of the code, and what they leave there: the result of each call's
+-- definition, refusal 1 first.
 use mathlib.Core.List.{List, [], _∷_, _++_, map}
 use Prim.Native.Nat.{ℕ}
 use lib.IntN.{ℤ}
@@ -9,48 +10,56 @@ use Rattle.buffer_state.specs.declared.Changed.{Changed}
 use Rattle.buffer_state.specs.declared.Count.{Count}
 use Rattle.buffer_state.specs.declared.Count.the-variants as Count
 use Rattle.buffer_state.specs.declared.Counted.{Counted}
+use Rattle.buffer_state.specs.declared.Head.{Head}
 use Rattle.buffer_state.specs.declared.Mode.{Mode}
 use Rattle.buffer_state.specs.declared.Offered.{Offered}
 use Rattle.buffer_state.specs.declared.Read.{Read}
 use Rattle.buffer_state.specs.declared.Read.the-variants as Read
-use Rattle.buffer_state.specs.declared.State.{State}
 use Rattle.buffer_state.specs.declared.WindowEnd.{WindowEnd}
 use Rattle.buffer_state.specs.declared.WindowEnd.the-variants.{Unbounded, At}
 use Rattle.buffer_state.specs.Append.{Outcome, append}
 use Rattle.buffer_state.specs.Buffer.{Buffer, fresh}
-use Rattle.buffer_state.specs.Layout.{stateOf, onState}
+use Rattle.buffer_state.specs.Lent.{headOf, timesIn, tagsIn, onLent}
 use Rattle.buffer_state.specs.Ranges.{Range, trackRanges, commonRanges}
 use Rattle.buffer_state.specs.Refusals.{Result, refused, done}
 use Rattle.buffer_state.specs.Remove.{remove}
 use Rattle.buffer_state.specs.Settings.{create, aborted, modeSet, offsetSet, windowStartSet, windowEndSet, Reading, reading}
 use Rattle.buffer_state.specs.Store.{Line}
 
--- creation, abort and the setters: after a refusal, the state that is given first
-abbrev pub changed : State → Result Buffer → Changed
-changed s (refused why) = record { answer = Refused why; state = s }
-changed s (done b) = record { answer = Done; state = stateOf b }
+-- creation, abort and the setters: after a refusal, the head that is given first
+abbrev pub changed : Head → Result Buffer → Changed
+changed h (refused why) = record { answer = Refused why; head = h }
+changed h (done b) = record { answer = Done; head = headOf b }
 
-unfoldable pub abortAnswer : State → Changed
-abortAnswer s = changed s (onState (λ (b : Buffer). done (aborted b)) s)
+unfoldable pub abortAnswer : Head → List (List ℤ) → List (List ℕ) → Changed
+abortAnswer h ts gs = changed h (onLent (λ (b : Buffer). done (aborted b)) h ts gs)
 
-unfoldable pub modeAnswer : Mode → State → Changed
-modeAnswer m s = changed s (onState (λ (b : Buffer). done (modeSet m b)) s)
+unfoldable pub modeAnswer : Mode → Head → List (List ℤ) → List (List ℕ) → Changed
+modeAnswer m h ts gs = changed h (onLent (λ (b : Buffer). done (modeSet m b)) h ts gs)
 
-unfoldable pub offsetAnswer : Float → State → Changed
-offsetAnswer x s = changed s (onState (offsetSet x) s)
+unfoldable pub offsetAnswer : Float → Head → List (List ℤ) → List (List ℕ) → Changed
+offsetAnswer x h ts gs = changed h (onLent (offsetSet x) h ts gs)
 
-unfoldable pub windowStartAnswer : Float → State → Changed
-windowStartAnswer x s = changed s (onState (windowStartSet x) s)
+unfoldable pub windowStartAnswer : Float → Head → List (List ℤ) → List (List ℕ) → Changed
+windowStartAnswer x h ts gs = changed h (onLent (windowStartSet x) h ts gs)
 
-unfoldable pub windowEndAnswer : Float → State → Changed
-windowEndAnswer x s = changed s (onState (windowEndSet x) s)
+unfoldable pub windowEndAnswer : Float → Head → List (List ℤ) → List (List ℕ) → Changed
+windowEndAnswer x h ts gs = changed h (onLent (windowEndSet x) h ts gs)
 
--- Creation that is refused gives no state: the answer carries the state of zeros, which is not well-formed.
-abbrev pub zeroState : State
-zeroState = stateOf (fresh [])
+-- Creation that is refused gives no state: the answer carries the head of zeros, which is not well-formed, and what is lent stays.
+abbrev pub zeroHead : Head
+zeroHead = headOf (fresh [])
 
 unfoldable pub createAnswer : List ℕ → Changed
-createAnswer kinds = changed zeroState (create kinds)
+createAnswer kinds = changed zeroHead (create kinds)
+
+abbrev pub timesCreated : Result Buffer → List (List ℤ) → List (List ℤ)
+timesCreated (refused why) before = before
+timesCreated (done b) before = timesIn b
+
+abbrev pub tagsCreated : Result Buffer → List (List ℕ) → List (List ℕ)
+tagsCreated (refused why) before = before
+tagsCreated (done b) before = tagsIn b
 
 -- reading the settings
 abbrev pub readWith : Float → Float → WindowEnd → Read
@@ -61,14 +70,23 @@ abbrev pub read : Result Reading → Read
 read (refused why) = Read.Refused why
 read (done r) = readWith (r .offset) (r .start) (r .end)
 
-unfoldable pub settingsAnswer : State → Read
-settingsAnswer s = read (onState (λ (b : Buffer). done (reading b)) s)
+unfoldable pub settingsAnswer : Head → List (List ℤ) → List (List ℕ) → Read
+settingsAnswer h ts gs = read (onLent (λ (b : Buffer). done (reading b)) h ts gs)
 
--- ---- append and remove: the answer and the state, and what the lent fate list holds after the call
+-- ---- append and remove: the answer and the head, and what the arrays and the lent fate list hold after the call
 
-abbrev pub counted : State → Result Outcome → Counted
-counted s (refused why) = record { answer = Count.Refused why; state = s }
-counted s (done o) = record { answer = Count.Done (length (o .lines)); state = stateOf (o .after) }
+abbrev pub counted : Head → Result Outcome → Counted
+counted h (refused why) = record { answer = Count.Refused why; head = h }
+counted h (done o) = record { answer = Count.Done (length (o .lines)); head = headOf (o .after) }
+
+-- the arrays: those that hold the buffer after the call; after a refusal, what they held
+abbrev pub timesAfter : Result Outcome → List (List ℤ) → List (List ℤ)
+timesAfter (refused why) before = before
+timesAfter (done o) before = timesIn (o .after)
+
+abbrev pub tagsAfter : Result Outcome → List (List ℕ) → List (List ℕ)
+tagsAfter (refused why) before = before
+tagsAfter (done o) before = tagsIn (o .after)
 
 -- a fate line as it is written: number, then cause
 abbrev pub written : List Line → List (List ℕ)
@@ -79,11 +97,11 @@ abbrev pub listAfter : Result Outcome → List (List ℕ) → List (List ℕ)
 listAfter (refused why) before = before
 listAfter (done o) before = written (o .lines) ++ drop (length (o .lines)) before
 
-unfoldable pub appendResult : ℕ → Offered → State → Result Outcome
-appendResult lent f = onState (append lent f)
+unfoldable pub appendResult : ℕ → Offered → Head → List (List ℤ) → List (List ℕ) → Result Outcome
+appendResult lent f = onLent (append lent f)
 
-unfoldable pub removeResult : ℕ → Float → Float → State → Result Outcome
-removeResult lent start end = onState (remove lent start end)
+unfoldable pub removeResult : ℕ → Float → Float → Head → List (List ℤ) → List (List ℕ) → Result Outcome
+removeResult lent start end = onLent (remove lent start end)
 
 -- ---- the reports: how many ranges, and what the lent range list holds after the call
 
@@ -100,8 +118,8 @@ abbrev pub rangesAfter : Result (List Range) → List (List ℤ) → List (List 
 rangesAfter (refused why) before = before
 rangesAfter (done rs) before = laid rs ++ drop (length rs) before
 
-unfoldable pub trackRangesResult : ℕ → ℕ → State → Result (List Range)
-trackRangesResult lent track = onState (trackRanges lent track)
+unfoldable pub trackRangesResult : ℕ → ℕ → Head → List (List ℤ) → List (List ℕ) → Result (List Range)
+trackRangesResult lent track = onLent (trackRanges lent track)
 
-unfoldable pub commonRangesResult : ℕ → State → Result (List Range)
-commonRangesResult lent = onState (commonRanges lent)
+unfoldable pub commonRangesResult : ℕ → Head → List (List ℤ) → List (List ℕ) → Result (List Range)
+commonRangesResult lent = onLent (commonRanges lent)

@@ -1,4 +1,4 @@
--- How a State holds a buffer: arrays with zeros past the counts. And refusal 1, which comes first in every call on a State.
+-- How a State holds a buffer: arrays with zeros past the counts.
 use mathlib.Core.Bool.{Bool, false, not, _&&_}
 use mathlib.Core.List.{List, _++_}
 use Prim.Native.Nat.{ℕ, _-_}
@@ -7,11 +7,9 @@ use lib.IntN.{pos}
 use lib.ListN.{length, take, drop, replicate}
 use Rattle.buffer_state.specs.declared.Frame.{Frame}
 use Rattle.buffer_state.specs.declared.Track.{Track}
-use Rattle.buffer_state.specs.declared.State.{State}
-use Rattle.buffer_state.specs.declared.Refusal.the-variants.{IllFormed}
 use Rattle.buffer_state.specs.Buffer.{Buffer, zeroTrack}
 use Rattle.buffer_state.specs.Limits.{places, mostTracks}
-use Rattle.buffer_state.specs.Refusals.{Result, refuseIf}
+use Rattle.buffer_state.specs.State.{State}
 use Rattle.buffer_state.specs.WellFormed.{allOf, zeroInt, goodBuffer}
 
 abbrev pub zeroFrame : Frame
@@ -62,7 +60,3 @@ laidOut s =
 
 unfoldable pub wellFormed : State → Bool
 wellFormed s = laidOut s && goodBuffer (bufferOf s)
-
--- A call on a state: refusal 1 comes first in every call.
-unfoldable pub onState : {A : Type 0} → (Buffer → Result A) → State → Result A
-onState call s = refuseIf (not (wellFormed s)) IllFormed (call (bufferOf s))

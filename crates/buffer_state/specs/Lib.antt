@@ -7,7 +7,9 @@ pub mod Append
 pub mod Remove
 pub mod Settings
 pub mod Ranges
+pub mod State
 pub mod Layout
+pub mod Lent
 pub mod Answers
 pub mod Run
 pub mod Soundings

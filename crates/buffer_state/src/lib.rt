@@ -1,11 +1,13 @@
-// The state of a frame buffer, by value, and what its calls are handed and answer.
-// What each call does to it is defined in specs/, a file for each section of document 01.
+// The types of a frame buffer's state, and what its calls are handed and answer. The caller owns the state: a Head by value, and the
+// stored frames in two lent arrays of numbers, rows of times and rows of tags. specs/Lent.antt says how they hold a state; what each
+// call does to it is defined in specs/, a file for each section of document 01.
 ghost use mathlib.Core.Path.{_≡_};
-ghost use Rattle.buffer_state.specs.Refusals.{refusalNumber};
+ghost use Rattle.buffer_state.specs.Answers.{counted};
+ghost use Rattle.buffer_state.specs.Refusals.{refusalNumber, refused};
 
 // A coded frame as offered to an append. Times are microseconds.
 pub struct Offered {
-    pub track: u8,
+    pub track: u32,
     pub flagged: bool, // a random access point
     pub duration: u32,
     pub pts: i64, // presentation timestamp
@@ -14,7 +16,7 @@ pub struct Offered {
 
 // A stored coded frame. Its times have the timestamp offset added.
 pub struct Frame {
-    pub track: u8,
+    pub track: u32,
     pub flagged: bool,
     pub duration: u32,
     pub number: u32, // frame numbers are given from 1 in the order of the appends
@@ -64,11 +66,11 @@ pub struct Settings {
     pub limit: i64, // the window end in microseconds, zero where there is none
 }
 
-pub struct State {
-    pub frames: [Frame; 1024],
-    pub nframes: usize,
+// All of a state but its frames.
+pub struct Head {
     pub tracks: [Track; 4],
     pub ntracks: usize,
+    pub nframes: usize, // how many places of the lent arrays are in use
     pub mode: Mode,
     pub group: Group,
     pub last: u32, // the last frame number given
@@ -109,7 +111,7 @@ pub fn refusal_number(why: Refusal) -> u32
     }
 }
 
-// What creation, abort and the setters answer, and the state that they hand back: after a refusal the one that they were handed, or
+// What creation, abort and the setters answer, and the head that they hand back: after a refusal the one that they were handed, or
 // zeros where a creation was refused.
 pub enum Answer {
     Done,
@@ -118,7 +120,7 @@ pub enum Answer {
 
 pub struct Changed {
     pub answer: Answer,
-    pub state: State,
+    pub head: Head,
 }
 
 // What reading the settings answers: the doubles kept, bit for bit, and whether there is a window end.
@@ -136,5 +138,15 @@ pub enum Count {
 
 pub struct Counted {
     pub answer: Count,
-    pub state: State,
+    pub head: Head,
+}
+
+// A call that writes lines and is refused hands back the head as it was.
+pub fn refuse(h: Head, why: Refusal) -> Counted
+    ensures { λ r. ⌜ r ≡ counted h (refused why) ⌝ }
+{
+    Counted {
+        answer: Count::Refused(why),
+        head: h,
+    }
 }

@@ -10,23 +10,23 @@ use lib.IntN.{ℤ}
 use lib.Ieee.{Float}
 use lib.ListN.{length, take, getD, set, length-append, length-map, length-set}
 use Rattle.laws.proofs.BoolLaws.{and-left, and-right, by-test}
-use Rattle.buffer_state.specs.declared.State.{State}
+use Rattle.buffer_state.specs.declared.Head.{Head}
 use Rattle.buffer_state.specs.Answers.{written, laid}
 use Rattle.buffer_state.specs.Buffer.{Buffer}
-use Rattle.buffer_state.specs.Layout.{stateOf}
+use Rattle.buffer_state.specs.Lent.{Lent, lentOf}
 use Rattle.buffer_state.specs.Ranges.{Range}
 use Rattle.buffer_state.specs.Refusals.{Result}
 use Rattle.buffer_state.specs.Run.{Call, Answer, Entry, replyTo, run, lastOf, linesIn, total}
 use Rattle.buffer_state.specs.Store.{Line}
 use Rattle.buffer_state.specs.WellFormed.{allOf, goodBuffer}
 use Rattle.buffer_laws.proofs.GoodLaws.{good-facts, facts-good}
-use Rattle.buffer_laws.proofs.LayoutLaws.{good-well-formed, buffer-back}
+use Rattle.buffer_laws.proofs.LentLaws.{laid-well-formed, held-back}
 use Rattle.buffer_laws.proofs.RunLaws.{run-lawful}
 use Rattle.buffer_laws.proofs.TestLaws.{all-first, all-rest}
 use Rattle.call_list.specs.declared.Ending.the-variants.{Done}
 use Rattle.call_rows.specs.declared.Step.{Step}
 use Rattle.call_rows.specs.Encoded.{ofLines, ofRanges, rowCall}
-use Rattle.call_rows.specs.Replies.{Replied, laidReply, replyOn, stepOf, sizeOf, rangesIn, writtenAt, CalledAt}
+use Rattle.call_rows.specs.Replies.{lent, Replied, laidReply, replyOn, stepOf, sizeOf, rangesIn, writtenAt, CalledAt}
 use Rattle.call_list.specs.Listed.{firstCalls, encodedCalls, answerOf, readingsIn, allOut, noted, Filled, Lists, rowFits, rangesOfRow, longEnough, fits, fitsIn, Replayed}
 use Rattle.call_list.proofs.ListedLaws.{entryOf, last-more, run-more, out-more, lines-out, map-append, filled-none, filled-more, refilled, set-written, lines-few}
 use Rattle.call_list.proofs.ShapeLaws.{Shape, row-shape}
@@ -55,7 +55,7 @@ module _ {A : Type 0} (f : A → ℕ) where
 -- ---- a list that fits
 
 pub record Room (rows : List (List ℕ)) (ts : List (List ℤ)) (xs : List (List Float)) (l : Lists) : Type 0 where
-  pub times : length rows ≤ length ts
+  pub stamps : length rows ≤ length ts
   pub seconds : length rows ≤ length xs
   pub answers : length rows ≤ length (l .answers)
   pub lines : length rows ≤ length (l .lines)
@@ -73,7 +73,7 @@ room rows ts xs l e =
     let l₂ = and-right (leb n (length xs)) _ l₁ in
     let l₃ = and-right (leb n (length (l .answers))) _ l₂ in
     record {
-      times = leb-true n (length ts) (and-left (leb n (length ts)) _ long);
+      stamps = leb-true n (length ts) (and-left (leb n (length ts)) _ long);
       seconds = leb-true n (length xs) (and-left (leb n (length xs)) _ l₁);
       answers = leb-true n (length (l .answers)) (and-left (leb n (length (l .answers))) _ l₂);
       lines = leb-true n (length (l .lines)) (and-left (leb n (length (l .lines))) _ l₃);
@@ -84,34 +84,35 @@ room rows ts xs l e =
 
 -- ---- a call on the state that holds a good buffer
 
-reply-on : (c : Call) (b : Buffer) → goodBuffer b ≡ true → replyOn c (stateOf b) ≡ laidReply (replyTo c b)
+reply-on : (c : Call) (b : Buffer) → goodBuffer b ≡ true → replyOn c (lentOf b) ≡ laidReply (replyTo c b)
 unfolding replyOn
-reply-on c b good = rw (good-well-formed b good, buffer-back b)
+reply-on c b good = rw (laid-well-formed b good, held-back b)
 
 noted-few : (kind : ℕ) (doubles : List Float) → length (noted kind doubles) ≤ 1
 noted-few kind doubles = by-test (λ (l : List (List Float)). length l ≤ 1) (eqb kind 7) (λ _. omega arith) (λ _. omega arith)
 
 -- ---- after the first i calls
 
-module _ (rows : List (List ℕ)) (times : List (List ℤ)) (seconds : List (List Float)) (b₀ : Buffer) (before : Lists) where
-  pub calls-length : (i : ℕ) → length (firstCalls rows times seconds i) ≡ i
+module _ (rows : List (List ℕ)) (stamps : List (List ℤ)) (seconds : List (List Float)) (b₀ : Buffer) (before : Lists) where
+  pub calls-length : (i : ℕ) → length (firstCalls rows stamps seconds i) ≡ i
   unfolding firstCalls
   calls-length zero = refl
-  calls-length (suc i) = omega (arith, length-append (firstCalls rows times seconds i) (rowCall (getD rows i []) (getD times i []) (getD seconds i []) ∷ []), calls-length i)
+  calls-length (suc i) = omega (arith, length-append (firstCalls rows stamps seconds i) (rowCall (getD rows i []) (getD stamps i []) (getD seconds i []) ∷ []), calls-length i)
 
-  pub record Sofar (after : Lists) (s : State) (at placed read i : ℕ) : Type 0 where
+  -- the head and the arrays hold what the calls so far lead to
+  pub record Sofar (after : Lists) (h : Head) (at placed read i : ℕ) : Type 0 where
     pub inside : i ≤ length rows
-    pub state : s ≡ stateOf (lastOf b₀ (firstCalls rows times seconds i))
-    pub answers : Filled (map answerOf (run b₀ (firstCalls rows times seconds i))) (before .answers) (after .answers) i
-    pub lines : Filled (written (allOut linesIn (run b₀ (firstCalls rows times seconds i)))) (before .lines) (after .lines) at
-    pub ranges : Filled (laid (allOut rangesIn (run b₀ (firstCalls rows times seconds i)))) (before .ranges) (after .ranges) placed
-    pub readings : Filled (allOut readingsIn (run b₀ (firstCalls rows times seconds i))) (before .readings) (after .readings) read
+    pub state : lent h (after .times) (after .tags) ≡ lentOf (lastOf b₀ (firstCalls rows stamps seconds i))
+    pub answers : Filled (map answerOf (run b₀ (firstCalls rows stamps seconds i))) (before .answers) (after .answers) i
+    pub lines : Filled (written (allOut linesIn (run b₀ (firstCalls rows stamps seconds i)))) (before .lines) (after .lines) at
+    pub ranges : Filled (laid (allOut rangesIn (run b₀ (firstCalls rows stamps seconds i)))) (before .ranges) (after .ranges) placed
+    pub readings : Filled (allOut readingsIn (run b₀ (firstCalls rows stamps seconds i))) (before .readings) (after .readings) read
     pub placed-few : placed ≤ total rangesOfRow (take i rows)
     pub read-few : read ≤ i
 
-  pub sofar-none : (s : State) → s ≡ stateOf b₀ → Sofar before s 0 0 0 0
+  pub sofar-none : (h : Head) → lent h (before .times) (before .tags) ≡ lentOf b₀ → Sofar before h 0 0 0 0
   unfolding firstCalls run lastOf allOut total
-  sofar-none s e = record {
+  sofar-none h e = record {
     inside = omega arith;
     state = e;
     answers = filled-none (before .answers);
@@ -122,10 +123,13 @@ module _ (rows : List (List ℕ)) (times : List (List ℤ)) (seconds : List (Lis
     read-few = omega arith;
   }
 
-  module _ (good : goodBuffer b₀ ≡ true) (empty : b₀ .frames ≡ []) (fit : Room rows times seconds before)
-      (after : Lists) (s : State) (at placed read i : ℕ) (S : Sofar after s at placed read i) (h : i < length rows) where
+  module _ (good : goodBuffer b₀ ≡ true) (empty : b₀ .frames ≡ []) (fit : Room rows stamps seconds before)
+      (after : Lists) (k : Head) (at placed read i : ℕ) (S : Sofar after k at placed read i) (h : i < length rows) where
+    abbrev s : Lent
+    s = lent k (after .times) (after .tags)
+
     abbrev cs : List Call
-    cs = firstCalls rows times seconds i
+    cs = firstCalls rows stamps seconds i
 
     abbrev b : Buffer
     b = lastOf b₀ cs
@@ -160,15 +164,15 @@ module _ (rows : List (List ℕ)) (times : List (List ℤ)) (seconds : List (Lis
       pub ranges-room : placed + ofRanges (getD row 0 0) (getD row 4 0) ≤ length (after .ranges)
       ranges-room = omega (arith, S .placed-few, row-total, total-front rangesOfRow rows (suc i), fit .ranges, S .ranges .same)
 
-      module _ (time : List ℤ) (second : List Float) (et : time ≡ getD times i []) (ex : second ≡ getD seconds i []) where
+      module _ (stamp : List ℤ) (second : List Float) (et : stamp ≡ getD stamps i []) (ex : second ≡ getD seconds i []) where
         abbrev c : Call
-        c = rowCall row time second
+        c = rowCall row stamp second
 
         abbrev e : Entry
         e = entryOf c b
 
         abbrev next : List Call
-        next = firstCalls rows times seconds (suc i)
+        next = firstCalls rows stamps seconds (suc i)
 
         next-calls : next ≡ cs ++ (c ∷ [])
         unfolding firstCalls
@@ -184,15 +188,15 @@ module _ (rows : List (List ℕ)) (times : List (List ℤ)) (seconds : List (Lis
         next-out of = ap (allOut of) next-run ∙ out-more of (run b₀ cs) e
 
         shape : Shape (getD row 0 0) (getD row 4 0) (e .result)
-        shape = row-shape row time second b
+        shape = row-shape row stamp second b
 
-        pub turn : (t : Step) (answers lines : List (List ℕ)) (spans : List (List ℤ)) (readings : List (List Float)) (at′ placed′ read′ : ℕ)
-            → CalledAt (replyOn c s) t (after .lines) at lines (after .ranges) placed spans → length lines ≡ length (after .lines) → length spans ≡ length (after .ranges)
+        pub turn : (t : Step) (answers lines : List (List ℕ)) (spans : List (List ℤ)) (readings : List (List Float)) (ts : List (List ℤ)) (gs : List (List ℕ)) (at′ placed′ read′ : ℕ)
+            → CalledAt (replyOn c s) t ts gs (after .lines) at lines (after .ranges) placed spans → length lines ≡ length (after .lines) → length spans ≡ length (after .ranges)
             → answers ≡ set (after .answers) i (t .refusal ∷ t .count ∷ [])
             → readings ≡ writtenAt (after .readings) read (noted (getD row 0 0) (t .doubles)) → length readings ≡ length (after .readings)
             → at′ ≡ at + ofLines (getD row 0 0) (t .count) → placed′ ≡ placed + ofRanges (getD row 0 0) (t .count) → read′ ≡ read + length (noted (getD row 0 0) (t .doubles))
-            → Sofar (record { answers = answers; lines = lines; ranges = spans; readings = readings }) (t .state) at′ placed′ read′ (suc i)
-        turn t answers lines spans readings at′ placed′ read′ call ll ls ea er₂ lr eat epl erd =
+            → Sofar (record { answers = answers; lines = lines; ranges = spans; readings = readings; times = ts; tags = gs }) (t .head) at′ placed′ read′ (suc i)
+        turn t answers lines spans readings ts gs at′ placed′ read′ call ll ls ea er₂ lr eat epl erd =
             let replied : replyOn c s ≡ laidReply (replyTo c b) = ap (replyOn c) (S .state) ∙ reply-on c b b-good in
             let told : t ≡ stepOf (laidReply (replyTo c b)) = call .step ∙ ap stepOf replied in
             let result : replyOn c s .result ≡ e .result = ap (λ (r : Replied). r .result) replied in
@@ -204,7 +208,11 @@ module _ (rows : List (List ℕ)) (times : List (List ℤ)) (seconds : List (Lis
             ea ∙ set-written (after .answers) i _ (omega (arith, S .answers .same, fit .answers)) ∙ ap (λ (x : Step). writtenAt (after .answers) i ((x .refusal ∷ x .count ∷ []) ∷ [])) told in
             record {
               inside = omega arith;
-              state = ap (λ (x : Step). x .state) told ∙ ap stateOf (sym next-last);
+              state =
+                  let head = ap (λ (x : Step). x .head) told in
+                  let first = call .times ∙ ap (λ (r : Replied). r .after .times) replied in
+                  let second = call .tags ∙ ap (λ (r : Replied). r .after .tags) replied in
+                  (λ j. lent (head j) (first j) (second j)) ∙ ap lentOf (sym next-last);
               answers =
                   refilled (sym (ap (map answerOf) next-run ∙ map-append answerOf (run b₀ cs) (e ∷ []))) (omega arith)
                   (filled-more (S .answers) (answerOf e ∷ []) wrote (ap length ea ∙ length-set (after .answers) i _));
@@ -223,16 +231,16 @@ module _ (rows : List (List ℕ)) (times : List (List ℤ)) (seconds : List (Lis
               read-few = omega (arith, erd, S .read-few, noted-few (getD row 0 0) (t .doubles));
             }
 
-  pub ended : (after : Lists) (s : State) (at placed read i : ℕ) → Sofar after s at placed read i → length rows ≤ i
-      → Replayed b₀ (encodedCalls rows times seconds) (record { ending = Done; lines = at; ranges = placed; readings = read; state = s }) before after
-  ended after s at placed read i S h =
+  pub ended : (after : Lists) (k : Head) (at placed read i : ℕ) → Sofar after k at placed read i → length rows ≤ i
+      → Replayed b₀ (encodedCalls rows stamps seconds) (record { ending = Done; lines = at; ranges = placed; readings = read; head = k }) before after
+  ended after k at placed read i S h =
       let n : i ≡ length rows = omega (arith, S .inside) in
-      let all : Sofar after s at placed read (length rows) = subst (Sofar after s at placed read) n S in
+      let all : Sofar after k at placed read (length rows) = subst (Sofar after k at placed read) n S in
       record {
         ending = refl;
         state = all .state;
         answers = refilled refl (sym (calls-length (length rows))) (all .answers);
-        lines = refilled (ap written (lines-out (run b₀ (encodedCalls rows times seconds)))) refl (all .lines);
+        lines = refilled (ap written (lines-out (run b₀ (encodedCalls rows stamps seconds)))) refl (all .lines);
         ranges = all .ranges;
         readings = all .readings;
       }

@@ -11,7 +11,7 @@ use lib.Ieee.{Float}
 use lib.ListN.{length, take, drop, getD, length-append, length-drop, length-map, take-append-drop}
 use lib.Seq.{length-take-le, drop-append-le, drop-drop}
 use Rattle.laws.proofs.BoolLaws.{split}
-use Rattle.buffer_state.specs.declared.State.{State}
+use Rattle.buffer_state.specs.Lent.{Lent}
 use Rattle.buffer_state.specs.Answers.{written, laid}
 use Rattle.buffer_state.specs.Run.{Call, linesIn}
 use Rattle.call_rows.specs.declared.Step.{Step}
@@ -19,9 +19,9 @@ use Rattle.call_rows.specs.Encoded.{callOf, ofLines, ofRanges, rowCall}
 use Rattle.call_rows.specs.Replies.{replyOn, rangesIn, Stepped, writtenAt, CalledAt}
 
 -- a row's call is lent as many places as its kind makes of what the row asks for
-call-lent : (row : List ℕ) (times : List ℤ) (seconds : List Float)
-    → callOf row times seconds (ofLines (getD row 0 0) (getD row 4 0)) (ofRanges (getD row 0 0) (getD row 4 0)) ≡ rowCall row times seconds
-call-lent row times seconds =
+call-lent : (row : List ℕ) (stamps : List ℤ) (seconds : List Float)
+    → callOf row stamps seconds (ofLines (getD row 0 0) (getD row 4 0)) (ofRanges (getD row 0 0) (getD row 4 0)) ≡ rowCall row stamps seconds
+call-lent row stamps seconds =
     split (ltb (getD row 0 0) 2) (λ a. rw a)
     (λ a. split (ltb (getD row 0 0) 7) (λ b. rw (a, b))
     (λ b. split (eqb (getD row 0 0) 7) (λ c. rw (a, b, c))
@@ -44,22 +44,24 @@ module _ {A : Type 0} (xs : List A) (at k : ℕ) (new part : List A) where
       ap (λ (p : List A). take at xs ++ (p ++ drop k (drop at xs))) e
       ∙ ap (λ (p : List A). take at xs ++ p) (append-assoc new (drop (length new) (midOf at k xs)) (drop k (drop at xs)) ∙ ap (λ (p : List A). new ++ p) rest)
 
-module _ (row : List ℕ) (times : List ℤ) (seconds : List Float) (s : State) (t : Step) (lines₀ : List (List ℕ)) (at n : ℕ) (spans₀ : List (List ℤ)) (placed m : ℕ)
+module _ (row : List ℕ) (stamps : List ℤ) (seconds : List Float) (s : Lent) (t : Step) (ts : List (List ℤ)) (gs : List (List ℕ)) (lines₀ : List (List ℕ)) (at n : ℕ) (spans₀ : List (List ℤ)) (placed m : ℕ)
     (en : n ≡ ofLines (getD row 0 0) (getD row 4 0)) (em : m ≡ ofRanges (getD row 0 0) (getD row 4 0))
     (hn : at + n ≤ length lines₀) (hm : placed + m ≤ length spans₀) where
-  same-call : callOf row times seconds (length (midOf at n lines₀)) (length (midOf placed m spans₀)) ≡ rowCall row times seconds
-  same-call = rw (part-length lines₀ at n hn, part-length spans₀ placed m hm, en, em) (call-lent row times seconds)
+  same-call : callOf row stamps seconds (length (midOf at n lines₀)) (length (midOf placed m spans₀)) ≡ rowCall row stamps seconds
+  same-call = rw (part-length lines₀ at n hn, part-length spans₀ placed m hm, en, em) (call-lent row stamps seconds)
 
   pub called-at : (p : List (List ℕ)) (q : List (List ℤ))
-      → Stepped (replyOn (callOf row times seconds (length (midOf at n lines₀)) (length (midOf placed m spans₀))) s) t (midOf at n lines₀) p (midOf placed m spans₀) q
+      → Stepped (replyOn (callOf row stamps seconds (length (midOf at n lines₀)) (length (midOf placed m spans₀))) s) t ts gs (midOf at n lines₀) p (midOf placed m spans₀) q
       → length p ≡ length (midOf at n lines₀) → length q ≡ length (midOf placed m spans₀)
-      → CalledAt (replyOn (rowCall row times seconds) s) t lines₀ at (putMid at n lines₀ p) spans₀ placed (putMid placed m spans₀ q)
+      → CalledAt (replyOn (rowCall row stamps seconds) s) t ts gs lines₀ at (putMid at n lines₀ p) spans₀ placed (putMid placed m spans₀ q)
   called-at p q h l k =
-      let g : Stepped (replyOn (rowCall row times seconds) s) t (midOf at n lines₀) p (midOf placed m spans₀) q =
-      subst (λ (c : Call). Stepped (replyOn c s) t (midOf at n lines₀) p (midOf placed m spans₀) q) same-call h in
-      let r = replyOn (rowCall row times seconds) s .result in
+      let g : Stepped (replyOn (rowCall row stamps seconds) s) t ts gs (midOf at n lines₀) p (midOf placed m spans₀) q =
+      subst (λ (c : Call). Stepped (replyOn c s) t ts gs (midOf at n lines₀) p (midOf placed m spans₀) q) same-call h in
+      let r = replyOn (rowCall row stamps seconds) s .result in
       record {
         step = g .step;
+        times = g .times;
+        tags = g .tags;
         fates = part-back lines₀ at n (written (linesIn r)) p (g .fates ∙ ap (λ (j : ℕ). written (linesIn r) ++ drop j (midOf at n lines₀)) (sym (length-map (linesIn r) _))) l;
         ranges = part-back spans₀ placed m (laid (rangesIn r)) q (g .ranges ∙ ap (λ (j : ℕ). laid (rangesIn r) ++ drop j (midOf placed m spans₀)) (sym (length-map (rangesIn r) _))) k;
       }

@@ -17,7 +17,7 @@ use Rattle.buffer_state.specs.Refusals.{Result, refused, done}
 use Rattle.buffer_state.specs.Remove.{remove}
 use Rattle.buffer_state.specs.Run.{Call, readCall, Answer, byOutcome, bySetting, byRanges, replyTo, linesIn}
 use Rattle.buffer_state.specs.Settings.{offsetSet, windowStartSet, windowEndSet}
-use Rattle.call_rows.specs.Encoded.{trackOf, offeredOf, linesCall, settingCall, rangesCallOf, ofLines, ofRanges, rowCall}
+use Rattle.call_rows.specs.Encoded.{offeredOf, linesCall, settingCall, rangesCallOf, ofLines, ofRanges, rowCall}
 use Rattle.call_rows.specs.Replies.{sizeOf, doublesIn, rangesIn}
 use Rattle.call_list.specs.Listed.{noted, readingsIn}
 
@@ -62,7 +62,7 @@ module _ (kind places : ℕ) (b : Buffer) where
         let n = length (commonRangesOf (length (b .tracks)) (b .frames)) in
         by-test Few (ltb places n) (λ _. omega arith) (λ e. ltb-false places n e)
 
-module _ (row : List ℕ) (times : List ℤ) (seconds : List Float) (b : Buffer) where
+module _ (row : List ℕ) (stamps : List ℤ) (seconds : List Float) (b : Buffer) where
   abbrev kind : ℕ
   kind = getD row 0 0
 
@@ -72,10 +72,10 @@ module _ (row : List ℕ) (times : List ℤ) (seconds : List Float) (b : Buffer)
   abbrev Shaped : Call → Type 0
   Shaped c = Shape kind places (replyTo c b .result)
 
-  lines-shape : kind < 2 → Shaped (linesCall row times seconds places)
+  lines-shape : kind < 2 → Shaped (linesCall row stamps seconds places)
   unfolding replyTo
   lines-shape h =
-      by-test Shaped (eqb kind 0) (λ _. outcome-shape kind places b h (append places (offeredOf row times) b))
+      by-test Shaped (eqb kind 0) (λ _. outcome-shape kind places b h (append places (offeredOf row stamps) b))
       (λ _. outcome-shape kind places b h (remove places (getD seconds 0 nan) (getD seconds 1 nan) b))
 
   settings-shape : 2 ≤ kind → kind < 7 → Shaped (settingCall kind (getD row 2 0) (getD seconds 0 nan))
@@ -95,10 +95,10 @@ module _ (row : List ℕ) (times : List ℤ) (seconds : List Float) (b : Buffer)
   reports-shape : 8 ≤ kind → Shaped (rangesCallOf row places)
   unfolding replyTo
   reports-shape h =
-      by-test Shaped (eqb kind 8) (λ _. ranges-shape kind places b h (trackRanges places (trackOf (getD row 1 0)) b) (track-few kind places b h (trackOf (getD row 1 0))))
+      by-test Shaped (eqb kind 8) (λ _. ranges-shape kind places b h (trackRanges places (getD row 1 0) b) (track-few kind places b h (getD row 1 0)))
       (λ _. ranges-shape kind places b h (commonRanges places b) (common-few kind places b h))
 
-  pub row-shape : Shaped (rowCall row times seconds)
+  pub row-shape : Shaped (rowCall row stamps seconds)
   row-shape =
       split (ltb kind 2) (λ e. rw e (lines-shape (ltb-true kind 2 e)))
       (λ e. split (ltb kind 7) (λ f. rw (e, f) (settings-shape (ltb-false kind 2 e) (ltb-true kind 7 f)))

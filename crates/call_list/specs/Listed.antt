@@ -7,10 +7,9 @@ use lib.Dec.{leb, eqb}
 use lib.IntN.{ℤ}
 use lib.Ieee.{Float}
 use lib.ListN.{length, drop, getD}
-use Rattle.buffer_state.specs.declared.State.{State}
-use Rattle.buffer_state.specs.Answers.{written, laid, zeroState}
+use Rattle.buffer_state.specs.Answers.{written, laid, zeroHead}
 use Rattle.buffer_state.specs.Buffer.{Buffer, fresh}
-use Rattle.buffer_state.specs.Layout.{stateOf, bufferOf}
+use Rattle.buffer_state.specs.Lent.{Lent, lentOf, bufferIn}
 use Rattle.buffer_state.specs.Refusals.{Result, refused, done}
 use Rattle.buffer_state.specs.Run.{Call, Answer, ok, fates, settings, ranges, Entry, run, lastOf, handedOut, total}
 use Rattle.buffer_state.specs.Settings.{create}
@@ -20,17 +19,17 @@ use Rattle.call_list.specs.declared.Ending as End
 use Rattle.call_list.specs.declared.Ending.the-variants.{Done, Unfit, Refused}
 use Rattle.call_list.specs.declared.Ran.{Ran}
 use Rattle.call_rows.specs.Encoded.{ofLines, ofRanges, rowCall}
-use Rattle.call_rows.specs.Replies.{numberOf, sizeOf, doublesIn, rangesIn}
+use Rattle.call_rows.specs.Replies.{lent, numberOf, sizeOf, doublesIn, rangesIn}
 
 -- ---- the calls
 
 -- the calls of the first so many rows
 unfoldable pub firstCalls : List (List ℕ) → List (List ℤ) → List (List Float) → ℕ → List Call
-firstCalls rows times seconds zero = []
-firstCalls rows times seconds (suc i) = firstCalls rows times seconds i ++ (rowCall (getD rows i []) (getD times i []) (getD seconds i []) ∷ [])
+firstCalls rows stamps seconds zero = []
+firstCalls rows stamps seconds (suc i) = firstCalls rows stamps seconds i ++ (rowCall (getD rows i []) (getD stamps i []) (getD seconds i []) ∷ [])
 
 abbrev pub encodedCalls : List (List ℕ) → List (List ℤ) → List (List Float) → List Call
-encodedCalls rows times seconds = firstCalls rows times seconds (length rows)
+encodedCalls rows stamps seconds = firstCalls rows stamps seconds (length rows)
 
 -- ---- what the lists hold
 
@@ -61,20 +60,27 @@ pub record Filled {A : Type 0} (new before after : List A) (n : ℕ) : Type 0 wh
   pub list : after ≡ new ++ drop n before
   pub same : length after ≡ length before
 
--- what the lent lists hold
+-- what the lent lists hold, and the arrays
 pub record Lists : Type 0 where
   pub answers : List (List ℕ)
   pub lines : List (List ℕ)
   pub ranges : List (List ℤ)
   pub readings : List (List Float)
+  pub times : List (List ℤ)
+  pub tags : List (List ℕ)
 
-abbrev pub listsOf : List (List ℕ) → List (List ℕ) → List (List ℤ) → List (List Float) → Lists
-listsOf answers lines spans readings = record { answers = answers; lines = lines; ranges = spans; readings = readings }
+abbrev pub listsOf : List (List ℕ) → List (List ℕ) → List (List ℤ) → List (List Float) → List (List ℤ) → List (List ℕ) → Lists
+listsOf answers lines spans readings ts gs =
+    record { answers = answers; lines = lines; ranges = spans; readings = readings; times = ts; tags = gs }
+
+-- a head over the arrays
+abbrev pub over : Lists → Ran → Lent
+over l r = lent (r .head) (l .times) (l .tags)
 
 -- the lists and the last state after calls on a buffer
 pub record Replayed (b : Buffer) (cs : List Call) (r : Ran) (before after : Lists) : Type 0 where
   pub ending : r .ending ≡ Done
-  pub state : r .state ≡ stateOf (lastOf b cs)
+  pub state : over after r ≡ lentOf (lastOf b cs)
   pub answers : Filled (map answerOf (run b cs)) (before .answers) (after .answers) (length cs)
   pub lines : Filled (written (handedOut (run b cs))) (before .lines) (after .lines) (r .lines)
   pub ranges : Filled (laid (allOut rangesIn (run b cs))) (before .ranges) (after .ranges) (r .ranges)
@@ -91,17 +97,17 @@ rangesOfRow row = ofRanges (getD row 0 0) (getD row 4 0)
 
 -- every list has a place for each call
 abbrev pub longEnough : ℕ → ℕ → ℕ → ℕ → ℕ → ℕ → Bool
-longEnough n times seconds answers lines readings = leb n times && (leb n seconds && (leb n answers && (leb n lines && leb n readings)))
+longEnough n stamps seconds answers lines readings = leb n stamps && (leb n seconds && (leb n answers && (leb n lines && leb n readings)))
 
 -- and the range list one for each that is asked for
 unfoldable pub fits : List (List ℕ) → ℕ → ℕ → ℕ → ℕ → ℕ → ℕ → Bool
-fits rows times seconds answers lines spans readings =
-    longEnough (length rows) times seconds answers lines readings
+fits rows stamps seconds answers lines spans readings =
+    longEnough (length rows) stamps seconds answers lines readings
     && (allOf (rowFits (lines - length rows)) rows && leb (total rangesOfRow rows) spans)
 
 -- of lists given whole
 abbrev pub fitsIn : List (List ℕ) → List (List ℤ) → List (List Float) → Lists → Bool
-fitsIn rows times seconds l = fits rows (length times) (length seconds) (length (l .answers)) (length (l .lines)) (length (l .ranges)) (length (l .readings))
+fitsIn rows stamps seconds l = fits rows (length stamps) (length seconds) (length (l .answers)) (length (l .lines)) (length (l .ranges)) (length (l .readings))
 
 abbrev pub endingOf : Result Buffer → End.Ending
 endingOf (refused why) = Refused why
@@ -111,9 +117,9 @@ endingOf (done b) = Done
 unfoldable pub endingFor : List ℕ → Bool → End.Ending
 endingFor kinds fit = cond fit (endingOf (create kinds)) Unfit
 
--- where there is no run: nothing is written, and no state is given
+-- where there is no run: nothing is written, and no head is given
 abbrev pub noRun : End.Ending → Ran
-noRun e = record { ending = e; lines = 0; ranges = 0; readings = 0; state = zeroState }
+noRun e = record { ending = e; lines = 0; ranges = 0; readings = 0; head = zeroHead }
 
 pub record NoRun (e : End.Ending) (r : Ran) (before after : Lists) : Type 0 where
   pub ran : r ≡ noRun e
@@ -122,7 +128,7 @@ pub record NoRun (e : End.Ending) (r : Ran) (before after : Lists) : Type 0 wher
 -- THE CLAIM of a run: it is the plain run over the calls so encoded, and it accounts for every number.
 pub record Claimed (kinds : List ℕ) (cs : List Call) (r : Ran) (before after : Lists) : Type 0 where
   pub replayed : Replayed (fresh kinds) cs r before after
-  pub account : Account (run (fresh kinds) cs) (r .state)
+  pub account : Account (run (fresh kinds) cs) (over after r)
 
 abbrev pub Ends : End.Ending → List ℕ → List Call → Ran → Lists → Lists → Type 0
 Ends Done kinds cs = Claimed kinds cs
@@ -132,7 +138,7 @@ Ends (Refused why) kinds cs = NoRun (Refused why)
 -- ---- the loop's premise
 
 -- a state without frames that holds a good buffer
-pub record Begun (s : State) : Type 0 where
-  pub held : s ≡ stateOf (bufferOf s)
-  pub good : goodBuffer (bufferOf s) ≡ true
-  pub empty : bufferOf s .frames ≡ []
+pub record Begun (s : Lent) : Type 0 where
+  pub held : s ≡ lentOf (bufferIn s)
+  pub good : goodBuffer (bufferIn s) ≡ true
+  pub empty : bufferIn s .frames ≡ []

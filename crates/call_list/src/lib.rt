@@ -1,7 +1,7 @@
-// A list of calls, rows of numbers, run through the public functions on a fresh buffer.
+// A list of calls, rows of numbers, run through the public functions on a fresh buffer in two lent arrays.
 use buffer_state::Answer;
+use buffer_state::Head;
 use buffer_state::Refusal;
-use buffer_state::State;
 use call_rows::ABORT;
 use call_rows::COMMON_RANGES;
 use call_rows::READ;
@@ -13,11 +13,11 @@ ghost use mathlib.Core.Bool.{true};
 ghost use Prim.Native.Nat.{_+_, _≤_, _<_};
 ghost use lib.Dec.{leb};
 ghost use lib.ListN.{length, getD};
-ghost use Rattle.buffer_state.specs.Layout.{bufferOf};
+ghost use Rattle.buffer_state.specs.Lent.{bufferIn};
 ghost use Rattle.buffer_state.specs.Run.{total};
 ghost use Rattle.buffer_state.specs.WellFormed.{allOf};
 ghost use Rattle.call_rows.specs.Encoded.{ofLines, ofRanges, rowCall};
-ghost use Rattle.call_rows.specs.Replies.{replyOn, writtenAt, CalledAt};
+ghost use Rattle.call_rows.specs.Replies.{lent, replyOn, writtenAt, CalledAt};
 ghost use Rattle.call_list.specs.Listed.{noted, listsOf, longEnough, rowFits, rangesOfRow, fits, fitsIn, endingFor, noRun, Ends, encodedCalls, Begun, Replayed};
 
 // How a run ends: it was run; a list is too short or a call is of no kind; the creation was refused.
@@ -27,13 +27,13 @@ pub enum Ending {
     Refused(Refusal),
 }
 
-// How many places of the lists of lines, ranges and readings were written, and the last state.
+// How many places of the lists of lines, ranges and readings were written, and the last head.
 pub struct Ran {
     pub ending: Ending,
     pub lines: usize,
     pub ranges: usize,
     pub readings: usize,
-    pub state: State,
+    pub head: Head,
 }
 
 // Of a number that a call of this kind asks for or gives: how much of it is fate lines, how much is ranges.
@@ -57,27 +57,31 @@ fn of_ranges(kind: u32, n: usize) -> usize
 
 // One call of the list, lent the places from `at` and from `placed` on.
 fn call_at(
-    s: State,
+    h: Head,
     row: [u32; 5],
-    times: [i64; 2],
+    stamps: [i64; 2],
     seconds: [f64; 2],
+    times: &mut [[i64; 2]; 1024],
+    tags: &mut [[u32; 4]; 1024],
     lines: &mut [[u32; 2]],
     at: usize,
     list: &mut [[i64; 2]],
     placed: usize,
 ) -> Step
     requires { ⌜ (at + ofLines (getD row 0 0) (getD row 4 0) ≤ length (now lines)) × (placed + ofRanges (getD row 0 0) (getD row 4 0) ≤ length (now list)) ⌝ }
-    ensures { λ r. ⌜ CalledAt (replyOn (rowCall row times seconds) s) r (now (lines .entry)) at (now (lines .exit)) (now (list .entry)) placed (now (list .exit)) ⌝ }
+    ensures { λ r. ⌜ CalledAt (replyOn (rowCall row stamps seconds) (lent h (now (times .entry)) (now (tags .entry)))) r (now (times .exit)) (now (tags .exit)) (now (lines .entry)) at (now (lines .exit)) (now (list .entry)) placed (now (list .exit)) ⌝ }
 {
     let kind = row[0];
     let places = wide(row[4]);
     let to = at + of_lines(kind, places);
     let end = placed + of_ranges(kind, places);
     call_rows::make_call(
-        s,
+        h,
         row,
-        times,
+        stamps,
         seconds,
+        times,
+        tags,
         &mut lines[at..to],
         &mut list[placed..end],
     )
@@ -98,38 +102,40 @@ fn note_reading(kind: u32, doubles: [f64; 3], readings: &mut [[f64; 3]], at: usi
 
 // All calls of a list that fits, from a state without frames.
 fn run_from(
-    start: State,
+    start: Head,
     calls: &[[u32; 5]],
-    times: &[[i64; 2]],
+    stamps: &[[i64; 2]],
     seconds: &[[f64; 2]],
     answers: &mut [[usize; 2]],
     lines: &mut [[u32; 2]],
     list: &mut [[i64; 2]],
     readings: &mut [[f64; 3]],
+    times: &mut [[i64; 2]; 1024],
+    tags: &mut [[u32; 4]; 1024],
 ) -> Ran
-    requires { ⌜ Begun start × (fitsIn (now calls) (now times) (now seconds) (listsOf (now answers) (now lines) (now list) (now readings)) ≡ true) ⌝ }
-    ensures { λ r. ⌜ Replayed (bufferOf start) (encodedCalls (now (calls .entry)) (now (times .entry)) (now (seconds .entry))) r
-        (listsOf (now (answers .entry)) (now (lines .entry)) (now (list .entry)) (now (readings .entry)))
-        (listsOf (now (answers .exit)) (now (lines .exit)) (now (list .exit)) (now (readings .exit))) ⌝ }
+    requires { ⌜ Begun (lent start (now times) (now tags)) × (fitsIn (now calls) (now stamps) (now seconds) (listsOf (now answers) (now lines) (now list) (now readings) (now times) (now tags)) ≡ true) ⌝ }
+    ensures { λ r. ⌜ Replayed (bufferIn (lent start (now (times .entry)) (now (tags .entry)))) (encodedCalls (now (calls .entry)) (now (stamps .entry)) (now (seconds .entry))) r
+        (listsOf (now (answers .entry)) (now (lines .entry)) (now (list .entry)) (now (readings .entry)) (now (times .entry)) (now (tags .entry)))
+        (listsOf (now (answers .exit)) (now (lines .exit)) (now (list .exit)) (now (readings .exit)) (now (times .exit)) (now (tags .exit))) ⌝ }
 {
-    let mut s = start;
+    let mut h = start;
     let mut at: usize = 0;
     let mut placed: usize = 0;
     let mut read: usize = 0;
     let mut i: usize = 0;
     while i < calls.len() {
         let row = calls[i];
-        let time = times[i];
+        let stamp = stamps[i];
         let second = seconds[i];
         let kind = row[0];
-        let t = call_at(s, row, time, second, lines, at, list, placed);
+        let t = call_at(h, row, stamp, second, times, tags, lines, at, list, placed);
         let count = t.count;
         answers[i] = [t.refusal, count];
         let doubles = t.doubles;
         read = note_reading(kind, doubles, readings, read);
         at += of_lines(kind, count);
         placed += of_ranges(kind, count);
-        s = t.state;
+        h = t.head;
         i += 1;
     }
     Ran {
@@ -137,7 +143,7 @@ fn run_from(
         lines: at,
         ranges: placed,
         readings: read,
-        state: s,
+        head: h,
     }
 }
 
@@ -145,15 +151,15 @@ fn run_from(
 
 fn long_enough(
     n: usize,
-    times: usize,
+    stamps: usize,
     seconds: usize,
     answers: usize,
     lines: usize,
     readings: usize,
 ) -> bool
-    ensures { λ r. ⌜ r ≡ longEnough n times seconds answers lines readings ⌝ }
+    ensures { λ r. ⌜ r ≡ longEnough n stamps seconds answers lines readings ⌝ }
 {
-    (n <= times) & ((n <= seconds) & ((n <= answers) & ((n <= lines) & (n <= readings))))
+    (n <= stamps) & ((n <= seconds) & ((n <= answers) & ((n <= lines) & (n <= readings))))
 }
 
 fn row_fits(row: [u32; 5], room: usize) -> bool
@@ -202,17 +208,17 @@ fn ranges_fit(calls: &[[u32; 5]], room: usize) -> bool
 
 fn fit(
     calls: &[[u32; 5]],
-    times: usize,
+    stamps: usize,
     seconds: usize,
     answers: usize,
     lines: usize,
     ranges: usize,
     readings: usize,
 ) -> bool
-    ensures { λ r. ⌜ r ≡ fits (now (calls .entry)) times seconds answers lines ranges readings ⌝ }
+    ensures { λ r. ⌜ r ≡ fits (now (calls .entry)) stamps seconds answers lines ranges readings ⌝ }
 {
     let n = calls.len();
-    if !long_enough(n, times, seconds, answers, lines, readings) {
+    if !long_enough(n, stamps, seconds, answers, lines, readings) {
         return false;
     }
     if !rows_fit(calls, lines - n) {
@@ -226,38 +232,41 @@ fn fit(
 fn no_run(ending: Ending) -> Ran
     ensures { λ r. ⌜ r ≡ noRun ending ⌝ }
 {
-    let c = settings::no_state();
-    let state = c.state;
+    let c = settings::no_head();
+    let head = c.head;
     Ran {
         ending,
         lines: 0,
         ranges: 0,
         readings: 0,
-        state,
+        head,
     }
 }
 
-// Create a buffer and make every call of the list on it, each handed the state last given. Row i of `calls`, with row i of `times`
-// and of `seconds`, is a call; its answer goes to row i of `answers`; lines, ranges and readings follow each other in their lists.
+// Create a buffer in the arrays and make every call of the list on it, each handed the head last given. Row i of `calls`, with row i of
+// `stamps` and of `seconds`, is a call; its answer goes to row i of `answers`; lines, ranges and readings follow each other in their
+// lists.
 pub fn run(
     kinds: &[u8],
     calls: &[[u32; 5]],
-    times: &[[i64; 2]],
+    stamps: &[[i64; 2]],
     seconds: &[[f64; 2]],
     answers: &mut [[usize; 2]],
     lines: &mut [[u32; 2]],
     list: &mut [[i64; 2]],
     readings: &mut [[f64; 3]],
+    times: &mut [[i64; 2]; 1024],
+    tags: &mut [[u32; 4]; 1024],
 ) -> Ran
-    ensures ending { λ r. ⌜ r .ending ≡ endingFor (now (kinds .entry)) (fitsIn (now (calls .entry)) (now (times .entry)) (now (seconds .entry))
-        (listsOf (now (answers .entry)) (now (lines .entry)) (now (list .entry)) (now (readings .entry)))) ⌝ }
-    ensures claim { λ r. ⌜ Ends (r .ending) (now (kinds .entry)) (encodedCalls (now (calls .entry)) (now (times .entry)) (now (seconds .entry))) r
-        (listsOf (now (answers .entry)) (now (lines .entry)) (now (list .entry)) (now (readings .entry)))
-        (listsOf (now (answers .exit)) (now (lines .exit)) (now (list .exit)) (now (readings .exit))) ⌝ }
+    ensures ending { λ r. ⌜ r .ending ≡ endingFor (now (kinds .entry)) (fitsIn (now (calls .entry)) (now (stamps .entry)) (now (seconds .entry))
+        (listsOf (now (answers .entry)) (now (lines .entry)) (now (list .entry)) (now (readings .entry)) (now (times .entry)) (now (tags .entry)))) ⌝ }
+    ensures claim { λ r. ⌜ Ends (r .ending) (now (kinds .entry)) (encodedCalls (now (calls .entry)) (now (stamps .entry)) (now (seconds .entry))) r
+        (listsOf (now (answers .entry)) (now (lines .entry)) (now (list .entry)) (now (readings .entry)) (now (times .entry)) (now (tags .entry)))
+        (listsOf (now (answers .exit)) (now (lines .exit)) (now (list .exit)) (now (readings .exit)) (now (times .exit)) (now (tags .exit))) ⌝ }
 {
     if !fit(
         calls,
-        times.len(),
+        stamps.len(),
         seconds.len(),
         answers.len(),
         lines.len(),
@@ -266,11 +275,22 @@ pub fn run(
     ) {
         return no_run(Ending::Unfit);
     }
-    let c = settings::create(kinds);
+    let c = settings::create(kinds, times, tags);
     let answer = c.answer;
-    let s = c.state;
+    let h = c.head;
     match answer {
-        Answer::Done => run_from(s, calls, times, seconds, answers, lines, list, readings),
+        Answer::Done => run_from(
+            h,
+            calls,
+            stamps,
+            seconds,
+            answers,
+            lines,
+            list,
+            readings,
+            times,
+            tags,
+        ),
         Answer::Refused(why) => no_run(Ending::Refused(why)),
     }
 }

@@ -3,7 +3,7 @@
 use mathlib.Core.Bool.{Bool, not, cond}
 use mathlib.Core.List.{List}
 use Prim.Native.Nat.{ℕ}
-use lib.Dec.{leb, ltb, eqb}
+use lib.Dec.{ltb, eqb}
 use lib.IntN.{ℤ, pos}
 use lib.Ieee.{Float, nan}
 use lib.ListN.{getD}
@@ -11,10 +11,6 @@ use Rattle.buffer_state.specs.declared.Mode.{Mode}
 use Rattle.buffer_state.specs.declared.Mode.the-variants.{Segments, Sequence}
 use Rattle.buffer_state.specs.declared.Offered.{Offered}
 use Rattle.buffer_state.specs.Run.{Call, appendCall, removeCall, abortCall, modeCall, offsetCall, windowStartCall, windowEndCall, readCall, rangesCall, commonCall}
-
--- a track's number fits a byte; no buffer has a track 255
-abbrev pub trackOf : ℕ → ℕ
-trackOf n = cond (leb n 255) n 255
 
 abbrev pub flagOf : ℕ → Bool
 flagOf n = not (eqb n 0)
@@ -24,7 +20,7 @@ modeOf n = cond (eqb n 0) Segments Sequence
 
 abbrev pub offeredOf : List ℕ → List ℤ → Offered
 offeredOf row times = record {
-  track = trackOf (getD row 1 0);
+  track = getD row 1 0;
   flagged = flagOf (getD row 2 0);
   duration = getD row 3 0;
   pts = getD times 0 (pos 0);
@@ -48,7 +44,7 @@ settingCall kind flag x =
 -- 8 a track's ranges, 9 the common ranges: calls that are lent a range list. A kind above 9 is taken for 9 by a single call; a list that
 -- has one is not run (Listed.antt).
 abbrev pub rangesCallOf : List ℕ → ℕ → Call
-rangesCallOf row lent = cond (eqb (getD row 0 0) 8) (rangesCall lent (trackOf (getD row 1 0))) (commonCall lent)
+rangesCallOf row lent = cond (eqb (getD row 0 0) 8) (rangesCall lent (getD row 1 0)) (commonCall lent)
 
 -- 7 reading the settings
 abbrev pub callOf : List ℕ → List ℤ → List Float → ℕ → ℕ → Call

@@ -1,4 +1,4 @@
--- What one call on a state gives, in the run's words and as numbers.
+-- What one call on a head and two arrays gives, in the run's words and as numbers.
 use mathlib.Core.Path.{_≡_}
 use mathlib.Core.Bool.{cond}
 use mathlib.Core.List.{List, [], _∷_, _++_}
@@ -11,30 +11,34 @@ use Rattle.buffer_state.specs.declared.Answer as Code
 use Rattle.buffer_state.specs.declared.Answer.the-variants as Said
 use Rattle.buffer_state.specs.declared.Count.{Count}
 use Rattle.buffer_state.specs.declared.Count.the-variants as Count
+use Rattle.buffer_state.specs.declared.Head.{Head}
 use Rattle.buffer_state.specs.declared.Read.{Read}
 use Rattle.buffer_state.specs.declared.Read.the-variants as Read
 use Rattle.buffer_state.specs.declared.Refusal.the-variants.{IllFormed}
-use Rattle.buffer_state.specs.declared.State.{State}
 use Rattle.buffer_state.specs.declared.WindowEnd.{WindowEnd}
 use Rattle.buffer_state.specs.declared.WindowEnd.the-variants.{Unbounded, At}
 use Rattle.buffer_state.specs.Answers.{written, laid}
-use Rattle.buffer_state.specs.Layout.{stateOf, bufferOf, wellFormed}
+use Rattle.buffer_state.specs.Lent.{Lent, lentOf, bufferIn, wellFormedAt}
 use Rattle.buffer_state.specs.Ranges.{Range}
 use Rattle.buffer_state.specs.Refusals.{Result, refused, done, refusalNumber}
 use Rattle.buffer_state.specs.Run.{Call, Answer, ok, fates, settings, ranges, Reply, replyTo, linesIn}
 use Rattle.call_rows.specs.declared.Step.{Step}
 
+abbrev pub lent : Head → List (List ℤ) → List (List ℕ) → Lent
+lent h ts gs = record { head = h; times = ts; tags = gs }
+
 -- a call's result and the state after it
 pub record Replied : Type 0 where
   pub result : Result Answer
-  pub after : State
+  pub after : Lent
 
 -- Refusal 1 first; on a well-formed state the reply on the buffer that it holds.
 abbrev pub laidReply : Reply → Replied
-laidReply r = record { result = r .result; after = stateOf (r .after) }
+laidReply r = record { result = r .result; after = lentOf (r .after) }
 
-unfoldable pub replyOn : Call → State → Replied
-replyOn c s = cond (wellFormed s) (laidReply (replyTo c (bufferOf s))) (record { result = refused IllFormed; after = s })
+unfoldable pub replyOn : Call → Lent → Replied
+replyOn c s =
+    cond (wellFormedAt (s .head) (s .times) (s .tags)) (laidReply (replyTo c (bufferIn s))) (record { result = refused IllFormed; after = s })
 
 -- ---- a result as numbers
 
@@ -72,9 +76,9 @@ doublesIn (done (settings r)) = r .offset ∷ r .start ∷ endOf (r .end) ∷ []
 doublesIn (done (ranges rs)) = noDoubles
 
 abbrev pub stepOf : Replied → Step
-stepOf r = record { refusal = numberOf (r .result); count = sizeOf (r .result); doubles = doublesIn (r .result); state = r .after }
+stepOf r = record { refusal = numberOf (r .result); count = sizeOf (r .result); doubles = doublesIn (r .result); head = r .after .head }
 
--- ---- the lent lists after a call
+-- ---- what is lent, after a call
 
 abbrev pub rangesIn : Result Answer → List Range
 rangesIn (refused why) = []
@@ -91,21 +95,23 @@ fatesAfter r before = written (linesIn r) ++ drop (length (linesIn r)) before
 abbrev pub spansAfter : Result Answer → List (List ℤ) → List (List ℤ)
 spansAfter r before = laid (rangesIn r) ++ drop (length (rangesIn r)) before
 
--- all that a call comes to: the step, and the two lists that may be lent to it
-pub record Stepped (r : Replied) (t : Step) (lines₀ lines : List (List ℕ)) (spans₀ spans : List (List ℤ)) : Type 0 where
+-- all that a call comes to: the step, the arrays, and the two lists that may be lent to it
+pub record Stepped (r : Replied) (t : Step) (ts : List (List ℤ)) (gs lines₀ lines : List (List ℕ)) (spans₀ spans : List (List ℤ)) : Type 0 where
   pub step : t ≡ stepOf r
+  pub times : ts ≡ r .after .times
+  pub tags : gs ≡ r .after .tags
   pub fates : lines ≡ fatesAfter (r .result) lines₀
   pub ranges : spans ≡ spansAfter (r .result) spans₀
 
 -- the same for a call that is lent no range list, for one that is lent no fate list, and for one that is lent neither
-abbrev pub Lined : Replied → Step → List (List ℕ) → List (List ℕ) → Type 0
-Lined r t lines₀ lines = (rs : List (List ℤ)) → Stepped r t lines₀ lines rs rs
+abbrev pub Lined : Replied → Step → List (List ℤ) → List (List ℕ) → List (List ℕ) → List (List ℕ) → Type 0
+Lined r t ts gs lines₀ lines = (rs : List (List ℤ)) → Stepped r t ts gs lines₀ lines rs rs
 
-abbrev pub Spanned : Replied → Step → List (List ℤ) → List (List ℤ) → Type 0
-Spanned r t spans₀ spans = (ls : List (List ℕ)) → Stepped r t ls ls spans₀ spans
+abbrev pub Spanned : Replied → Step → List (List ℤ) → List (List ℕ) → List (List ℤ) → List (List ℤ) → Type 0
+Spanned r t ts gs spans₀ spans = (ls : List (List ℕ)) → Stepped r t ts gs ls ls spans₀ spans
 
-abbrev pub Quiet : Replied → Step → Type 0
-Quiet r t = (ls : List (List ℕ)) (rs : List (List ℤ)) → Stepped r t ls ls rs rs
+abbrev pub Quiet : Replied → Step → List (List ℤ) → List (List ℕ) → Type 0
+Quiet r t ts gs = (ls : List (List ℕ)) (rs : List (List ℤ)) → Stepped r t ts gs ls ls rs rs
 
 -- ---- a call that is lent a part of a longer list
 
@@ -113,25 +119,27 @@ Quiet r t = (ls : List (List ℕ)) (rs : List (List ℤ)) → Stepped r t ls ls 
 abbrev pub writtenAt : {A : Type 0} → List A → ℕ → List A → List A
 writtenAt before at new = take at before ++ (new ++ drop (at + length new) before)
 
-pub record CalledAt (r : Replied) (t : Step) (lines₀ : List (List ℕ)) (at : ℕ) (lines : List (List ℕ)) (spans₀ : List (List ℤ)) (placed : ℕ) (spans : List (List ℤ)) : Type 0 where
+pub record CalledAt (r : Replied) (t : Step) (ts : List (List ℤ)) (gs lines₀ : List (List ℕ)) (at : ℕ) (lines : List (List ℕ)) (spans₀ : List (List ℤ)) (placed : ℕ) (spans : List (List ℤ)) : Type 0 where
   pub step : t ≡ stepOf r
+  pub times : ts ≡ r .after .times
+  pub tags : gs ≡ r .after .tags
   pub fates : lines ≡ writtenAt lines₀ at (written (linesIn (r .result)))
   pub ranges : spans ≡ writtenAt spans₀ placed (laid (rangesIn (r .result)))
 
--- ---- the same from the code's answers
+-- ---- the same from the code'h answers
 
-abbrev pub plainStep : ℕ → ℕ → State → Step
-plainStep refusal count s = record { refusal = refusal; count = count; doubles = noDoubles; state = s }
+abbrev pub plainStep : ℕ → ℕ → Head → Step
+plainStep refusal count h = record { refusal = refusal; count = count; doubles = noDoubles; head = h }
 
-abbrev pub changeStep : Code.Answer → State → Step
-changeStep Said.Done s = plainStep 0 0 s
-changeStep (Said.Refused why) s = plainStep (refusalNumber why) 0 s
+abbrev pub changeStep : Code.Answer → Head → Step
+changeStep Said.Done h = plainStep 0 0 h
+changeStep (Said.Refused why) h = plainStep (refusalNumber why) 0 h
 
-abbrev pub countStep : Count → State → Step
-countStep (Count.Done n) s = plainStep 0 n s
-countStep (Count.Refused why) s = plainStep (refusalNumber why) 0 s
+abbrev pub countStep : Count → Head → Step
+countStep (Count.Done n) h = plainStep 0 n h
+countStep (Count.Refused why) h = plainStep (refusalNumber why) 0 h
 
-abbrev pub readStep : Read → State → Step
-readStep (Read.Bounded offset start end) s = record { refusal = 0; count = 3; doubles = offset ∷ start ∷ end ∷ []; state = s }
-readStep (Read.Unbounded offset start) s = record { refusal = 0; count = 2; doubles = offset ∷ start ∷ zeroSeconds ∷ []; state = s }
-readStep (Read.Refused why) s = plainStep (refusalNumber why) 0 s
+abbrev pub readStep : Read → Head → Step
+readStep (Read.Bounded offset start end) h = record { refusal = 0; count = 3; doubles = offset ∷ start ∷ end ∷ []; head = h }
+readStep (Read.Unbounded offset start) h = record { refusal = 0; count = 2; doubles = offset ∷ start ∷ zeroSeconds ∷ []; head = h }
+readStep (Read.Refused why) h = plainStep (refusalNumber why) 0 h

@@ -1,17 +1,17 @@
-// A call as rows of numbers, made on any state: what it is and what it is handed; what it answered.
+// A call as rows of numbers, made on any head and arrays: what it is and what it is handed; what it answered.
 use buffer_state::Answer;
 use buffer_state::Changed;
 use buffer_state::Count;
+use buffer_state::Head;
 use buffer_state::Mode;
 use buffer_state::Offered;
 use buffer_state::Read;
 use buffer_state::Refusal;
-use buffer_state::State;
 ghost use mathlib.Core.Path.{_≡_};
 ghost use lib.ListN.{length};
 ghost use Rattle.buffer_state.specs.Refusals.{refusalNumber};
-ghost use Rattle.call_rows.specs.Encoded.{trackOf, modeOf, offeredOf, linesCall, settingCall, rangesCallOf, callOf};
-ghost use Rattle.call_rows.specs.Replies.{replyOn, Stepped, Lined, Spanned, Quiet, plainStep, changeStep, countStep, readStep};
+ghost use Rattle.call_rows.specs.Encoded.{modeOf, offeredOf, linesCall, settingCall, rangesCallOf, callOf};
+ghost use Rattle.call_rows.specs.Replies.{lent, replyOn, Stepped, Lined, Spanned, Quiet, plainStep, changeStep, countStep, readStep};
 
 // The kinds of call. Up to REMOVE they are lent a fate list, from ABORT to READ none, from TRACK_RANGES on a range list.
 pub const APPEND: u32 = 0;
@@ -34,12 +34,12 @@ pub const TRACK_RANGES: u32 = 8;
 
 pub const COMMON_RANGES: u32 = 9;
 
-// What one call gave: its refusal number or 0; how many lines, ranges or doubles; the doubles of a reading; the state.
+// What one call gave: its refusal number or 0; how many lines, ranges or doubles; the doubles of a reading; the head.
 pub struct Step {
     pub refusal: usize,
     pub count: usize,
     pub doubles: [f64; 3],
-    pub state: State,
+    pub head: Head,
 }
 
 // A number of a row, or of a refusal, as a count.
@@ -56,15 +56,6 @@ pub fn number_of(why: Refusal) -> usize
     wide(buffer_state::refusal_number(why))
 }
 
-fn track_of(n: u32) -> u8
-    ensures { λ r. ⌜ r ≡ trackOf n ⌝ }
-{
-    if n <= 255 {
-        return n as u8;
-    }
-    255
-}
-
 fn mode_of(n: u32) -> Mode
     ensures { λ r. ⌜ r ≡ modeOf n ⌝ }
 {
@@ -74,14 +65,14 @@ fn mode_of(n: u32) -> Mode
     Mode::Sequence
 }
 
-fn offered_of(row: [u32; 5], times: [i64; 2]) -> Offered
-    ensures { λ r. ⌜ r ≡ offeredOf row times ⌝ }
+fn offered_of(row: [u32; 5], stamps: [i64; 2]) -> Offered
+    ensures { λ r. ⌜ r ≡ offeredOf row stamps ⌝ }
 {
-    let track = track_of(row[1]);
+    let track = row[1];
     let flagged = row[2] != 0;
     let duration = row[3];
-    let pts = times[0];
-    let dts = times[1];
+    let pts = stamps[0];
+    let dts = stamps[1];
     Offered {
         track,
         flagged,
@@ -93,135 +84,152 @@ fn offered_of(row: [u32; 5], times: [i64; 2]) -> Offered
 
 // ---- what a call answered, as a step
 
-fn plain_step(refusal: usize, count: usize, state: State) -> Step
-    ensures { λ r. ⌜ r ≡ plainStep refusal count state ⌝ }
+fn plain_step(refusal: usize, count: usize, head: Head) -> Step
+    ensures { λ r. ⌜ r ≡ plainStep refusal count head ⌝ }
 {
     let doubles = [0.0; 3];
     Step {
         refusal,
         count,
         doubles,
-        state,
+        head,
     }
 }
 
-fn change_step(answer: Answer, s: State) -> Step
-    ensures { λ r. ⌜ r ≡ changeStep answer s ⌝ }
+fn change_step(answer: Answer, h: Head) -> Step
+    ensures { λ r. ⌜ r ≡ changeStep answer h ⌝ }
 {
     match answer {
-        Answer::Done => plain_step(0, 0, s),
-        Answer::Refused(why) => plain_step(number_of(why), 0, s),
+        Answer::Done => plain_step(0, 0, h),
+        Answer::Refused(why) => plain_step(number_of(why), 0, h),
     }
 }
 
-fn count_step(answer: Count, s: State) -> Step
-    ensures { λ r. ⌜ r ≡ countStep answer s ⌝ }
+fn count_step(answer: Count, h: Head) -> Step
+    ensures { λ r. ⌜ r ≡ countStep answer h ⌝ }
 {
     match answer {
-        Count::Done(n) => plain_step(0, n, s),
-        Count::Refused(why) => plain_step(number_of(why), 0, s),
+        Count::Done(n) => plain_step(0, n, h),
+        Count::Refused(why) => plain_step(number_of(why), 0, h),
     }
 }
 
-fn read_step(answer: Read, s: State) -> Step
-    ensures { λ r. ⌜ r ≡ readStep answer s ⌝ }
+fn read_step(answer: Read, h: Head) -> Step
+    ensures { λ r. ⌜ r ≡ readStep answer h ⌝ }
 {
     match answer {
         Read::Bounded { offset, start, end } => Step {
             refusal: 0,
             count: 3,
             doubles: [offset, start, end],
-            state: s,
+            head: h,
         },
         Read::Unbounded { offset, start } => Step {
             refusal: 0,
             count: 2,
             doubles: [offset, start, 0.0],
-            state: s,
+            head: h,
         },
-        Read::Refused(why) => plain_step(number_of(why), 0, s),
+        Read::Refused(why) => plain_step(number_of(why), 0, h),
     }
 }
 
 // ---- one call
 
 fn lines_step(
-    s: State,
+    h: Head,
     row: [u32; 5],
-    times: [i64; 2],
+    stamps: [i64; 2],
     seconds: [f64; 2],
+    times: &mut [[i64; 2]; 1024],
+    tags: &mut [[u32; 4]; 1024],
     fates: &mut [[u32; 2]],
 ) -> Step
-    ensures { λ r. ⌜ Lined (replyOn (linesCall row times seconds (length (now (fates .entry)))) s) r (now (fates .entry)) (now (fates .exit)) ⌝ }
+    ensures { λ r. ⌜ Lined (replyOn (linesCall row stamps seconds (length (now (fates .entry)))) (lent h (now (times .entry)) (now (tags .entry)))) r (now (times .exit)) (now (tags .exit)) (now (fates .entry)) (now (fates .exit)) ⌝ }
 {
     if row[0] == APPEND {
-        let f = offered_of(row, times);
-        let a = append::append(s, f, fates);
+        let f = offered_of(row, stamps);
+        let a = append::append(h, f, times, tags, fates);
         let answer = a.answer;
-        let t = a.state;
-        return count_step(answer, t);
+        let k = a.head;
+        return count_step(answer, k);
     }
     let start = seconds[0];
     let end = seconds[1];
-    let a = remove::remove(s, start, end, fates);
+    let a = remove::remove(h, start, end, times, tags, fates);
     let answer = a.answer;
-    let t = a.state;
-    count_step(answer, t)
+    let k = a.head;
+    count_step(answer, k)
 }
 
-fn changed(s: State, kind: u32, flag: u32, x: f64) -> Changed
-    ensures { λ r. ⌜ Quiet (replyOn (settingCall kind flag x) s) (changeStep (r .answer) (r .state)) ⌝ }
+fn changed(
+    h: Head,
+    kind: u32,
+    flag: u32,
+    x: f64,
+    times: &[[i64; 2]; 1024],
+    tags: &[[u32; 4]; 1024],
+) -> Changed
+    ensures { λ r. ⌜ Quiet (replyOn (settingCall kind flag x) (lent h (now (times .entry)) (now (tags .entry)))) (changeStep (r .answer) (r .head)) (now (times .entry)) (now (tags .entry)) ⌝ }
 {
     if kind == ABORT {
-        return settings::abort(s);
+        return settings::abort(h, times, tags);
     }
     if kind == MODE {
-        return settings::set_mode(s, mode_of(flag));
+        return settings::set_mode(h, times, tags, mode_of(flag));
     }
     if kind == OFFSET {
-        return settings::set_offset(s, x);
+        return settings::set_offset(h, times, tags, x);
     }
     if kind == WINDOW_START {
-        return settings::set_window_start(s, x);
+        return settings::set_window_start(h, times, tags, x);
     }
-    settings::set_window_end(s, x)
+    settings::set_window_end(h, times, tags, x)
 }
 
-fn ranges_step(s: State, row: [u32; 5], list: &mut [[i64; 2]]) -> Step
-    ensures { λ r. ⌜ Spanned (replyOn (rangesCallOf row (length (now (list .entry)))) s) r (now (list .entry)) (now (list .exit)) ⌝ }
+fn ranges_step(
+    h: Head,
+    row: [u32; 5],
+    times: &[[i64; 2]; 1024],
+    tags: &[[u32; 4]; 1024],
+    list: &mut [[i64; 2]],
+) -> Step
+    ensures { λ r. ⌜ Spanned (replyOn (rangesCallOf row (length (now (list .entry)))) (lent h (now (times .entry)) (now (tags .entry)))) r (now (times .entry)) (now (tags .entry)) (now (list .entry)) (now (list .exit)) ⌝ }
 {
     if row[0] == TRACK_RANGES {
-        let track = track_of(row[1]);
-        let a = ranges::track_ranges(s, track, list);
-        return count_step(a, s);
+        let track = row[1];
+        let a = ranges::track_ranges(h, times, tags, track, list);
+        return count_step(a, h);
     }
-    let a = ranges::common_ranges(s, list);
-    count_step(a, s)
+    let a = ranges::common_ranges(h, times, tags, list);
+    count_step(a, h)
 }
 
-// One call on any state: what it is, in numbers, and the lists lent to it. A kind above COMMON_RANGES is taken for that one.
+// One call on any head and arrays: what it is, in numbers, and the lists lent to it. A kind above COMMON_RANGES is taken for that one.
 pub fn make_call(
-    s: State,
+    h: Head,
     row: [u32; 5],
-    times: [i64; 2],
+    stamps: [i64; 2],
     seconds: [f64; 2],
+    times: &mut [[i64; 2]; 1024],
+    tags: &mut [[u32; 4]; 1024],
     fates: &mut [[u32; 2]],
     list: &mut [[i64; 2]],
 ) -> Step
-    ensures { λ r. ⌜ Stepped (replyOn (callOf row times seconds (length (now (fates .entry))) (length (now (list .entry)))) s) r (now (fates .entry)) (now (fates .exit)) (now (list .entry)) (now (list .exit)) ⌝ }
+    ensures { λ r. ⌜ Stepped (replyOn (callOf row stamps seconds (length (now (fates .entry))) (length (now (list .entry)))) (lent h (now (times .entry)) (now (tags .entry)))) r (now (times .exit)) (now (tags .exit)) (now (fates .entry)) (now (fates .exit)) (now (list .entry)) (now (list .exit)) ⌝ }
 {
     let kind = row[0];
     if kind < ABORT {
-        return lines_step(s, row, times, seconds, fates);
+        return lines_step(h, row, stamps, seconds, times, tags, fates);
     }
     if kind < READ {
-        let c = changed(s, kind, row[2], seconds[0]);
+        let c = changed(h, kind, row[2], seconds[0], times, tags);
         let answer = c.answer;
-        let t = c.state;
-        return change_step(answer, t);
+        let k = c.head;
+        return change_step(answer, k);
     }
     if kind == READ {
-        return read_step(settings::read_settings(s), s);
+        return read_step(settings::read_settings(h, times, tags), h);
     }
-    ranges_step(s, row, list)
+    ranges_step(h, row, times, tags, list)
 }

@@ -1,4 +1,4 @@
--- To lay a state flat and to read it back undo each other: `state-back` for every state, `flat-back` for every flat state whose
+-- To lay a head flat and to read it back undo each other: `head-back` for every head, `flat-back` for every flat head whose
 -- numbers are of their kind. Where one is not, every call is refused 1 (`spoilt-refused`).
 use mathlib.Core.Path.{_≡_, refl, sym, ap, ap₂, _∙_}
 use mathlib.Core.Bool.{Bool, true, false, cond, _&&_}
@@ -6,28 +6,30 @@ use mathlib.Core.List.{List, [], _∷_, map}
 use Prim.Native.Nat.{ℕ}
 use native.Mathlib.Omega.{arith}
 use lib.Dec.{eqb}
+use lib.IntN.{ℤ}
 use lib.Ieee.{Float}
+use lib.ListN.{length}
 use borrow.Author.Tests.{leb-true, eqb-true, eqb-false}
 use Rattle.laws.proofs.BoolLaws.{split, and-left, and-right, and-both}
 use Rattle.seconds.specs.Seconds.{zeroSeconds, sameDouble}
 use Rattle.seconds.proofs.SecondsLaws.{double-same, same-double}
-use Rattle.buffer_state.specs.declared.Frame.{Frame}
+use Rattle.buffer_state.specs.declared.Head.{Head}
 use Rattle.buffer_state.specs.declared.Mode.{Mode}
 use Rattle.buffer_state.specs.declared.Mode.the-variants.{Segments, Sequence}
 use Rattle.buffer_state.specs.declared.Refusal.the-variants.{IllFormed}
-use Rattle.buffer_state.specs.declared.State.{State}
 use Rattle.buffer_state.specs.declared.Track.{Track}
 use Rattle.buffer_state.specs.declared.WindowEnd.{WindowEnd}
 use Rattle.buffer_state.specs.declared.WindowEnd.the-variants.{Unbounded, At}
 use Rattle.buffer_state.specs.Buffer.{Buffer}
-use Rattle.buffer_state.specs.Layout.{laidOut, wellFormed, onState}
+use Rattle.buffer_state.specs.Layout.{laidOut, wellFormed}
+use Rattle.buffer_state.specs.Lent.{stateAt, plainTime, plainTag, wellFormedAt, onLent}
+use Rattle.buffer_state.specs.Limits.{places}
 use Rattle.buffer_state.specs.Refusals.{Result, refused}
 use Rattle.buffer_state.specs.WellFormed.{allOf, goodTracks, goodBuffer}
-use Rattle.buffer_laws.proofs.LayoutLaws.{ill-formed-refused}
-use Rattle.exports.specs.declared.Flat.{Flat}
-use Rattle.exports.specs.declared.FlatFrame.{FlatFrame}
+use Rattle.buffer_laws.proofs.LentLaws.{ill-formed-refused}
+use Rattle.exports.specs.declared.FlatHead.{FlatHead}
 use Rattle.exports.specs.declared.FlatTrack.{FlatTrack}
-use Rattle.exports.specs.Flat.{isFlag, flagIn, flagOut, modeIn, modeOut, endIn, boundedOut, endOut, frameIn, frameOut, trackIn, trackOut, plainFrame, plainTrack, plainEnd, plainHead, plain, flatOf, stateWith, stateIn}
+use Rattle.exports.specs.Flat.{isFlag, flagIn, flagOut, modeIn, modeOut, endIn, boundedOut, endOut, trackIn, trackOut, plainTrack, plainEnd, plain, headOut, headWith, headIn}
 
 -- ---- a number
 
@@ -103,17 +105,7 @@ module _ {A B : Type 0} (f : A → B) (g : B → A) where
   all-images q h [] = refl
   all-images q h (x ∷ l) = and-both (h x) (all-images q h l)
 
--- ---- frames and tracks
-
-frame-back : (f : Frame) → frameIn (frameOut f) ≡ f
-frame-back f =
-    let flagged = flag-back (f .flagged) in
-    λ i. record { track = f .track; flagged = flagged i; duration = f .duration; number = f .number; pts = f .pts; dts = f .dts }
-
-frame-out-back : (f : FlatFrame) → plainFrame f ≡ true → frameOut (frameIn f) ≡ f
-frame-out-back f h =
-    let flagged = flag-out-back (f .flagged) h in
-    λ i. record { track = f .track; flagged = flagged i; duration = f .duration; number = f .number; pts = f .pts; dts = f .dts }
+-- ---- tracks
 
 track-back : (t : Track) → trackIn (trackOut t) ≡ t
 track-back t =
@@ -127,60 +119,53 @@ track-out-back t h =
     let need = flag-out-back (t .need) (and-right (isFlag (t .known)) _ h) in
     λ i. record { kind = t .kind; known = known i; need = need i; duration = t .duration; dts = t .dts; end = t .end }
 
--- ---- the state
+-- ---- the head
 
--- the numbers of a state laid flat are of their kind
-pub flat-plain : (refusal count : ℕ) (s : State) → plain (flatOf refusal count s) ≡ true
+-- the numbers of a head laid flat are of their kind
+pub flat-plain : (h : Head) → plain (headOut h) ≡ true
 unfolding plain
-flat-plain refusal count s =
-    and-both
-    (and-both (is-mode (s .mode))
-    (and-both (is-flag (s .group .begun))
-    (and-both (is-end (s .settings .end))
-    (all-images trackOut trackIn plainTrack (λ t. and-both (is-flag (t .known)) (is-flag (t .need))) (s .tracks)))))
-    (all-images frameOut frameIn plainFrame (λ f. is-flag (f .flagged)) (s .frames))
+flat-plain h =
+    and-both (is-mode (h .mode))
+    (and-both (is-flag (h .group .begun))
+    (and-both (is-end (h .settings .end))
+    (all-images trackOut trackIn plainTrack (λ t. and-both (is-flag (t .known)) (is-flag (t .need))) (h .tracks))))
 
--- a state laid flat and read back is that state
-pub state-back : (refusal count : ℕ) (s : State) → stateIn true (flatOf refusal count s) ≡ s
-state-back refusal count s =
-    let frames = map-back frameOut frameIn frame-back (s .frames) in
-    let tracks = map-back trackOut trackIn track-back (s .tracks) in
-    let ntracks = ap (λ (b : Bool). cond b (s .ntracks) 0) (flat-plain refusal count s) in
-    let mode = mode-back (s .mode) in
-    let begun = flag-back (s .group .begun) in
-    let end = end-back (s .settings .end) in
+-- a head laid flat and read back is that head
+pub head-back : (h : Head) → headIn true (headOut h) ≡ h
+head-back h =
+    let tracks = map-back trackOut trackIn track-back (h .tracks) in
+    let ntracks = ap (λ (b : Bool). cond b (h .ntracks) 0) (flat-plain h) in
+    let mode = mode-back (h .mode) in
+    let begun = flag-back (h .group .begun) in
+    let end = end-back (h .settings .end) in
     λ i. record {
-      frames = frames i;
-      nframes = s .nframes;
       tracks = tracks i;
       ntracks = ntracks i;
+      nframes = h .nframes;
       mode = mode i;
-      group = record { begun = begun i; start = s .group .start; end = s .group .end };
-      last = s .last;
-      settings = record { offset = s .settings .offset; start = s .settings .start; end = end i; limit = s .settings .limit };
+      group = record { begun = begun i; start = h .group .start; end = h .group .end };
+      last = h .last;
+      settings = record { offset = h .settings .offset; start = h .settings .start; end = end i; limit = h .settings .limit };
     }
 
--- a flat state whose numbers are of their kind, read and laid flat again with its answer, is that flat state
-pub flat-back : (c : Flat) → plain c ≡ true → flatOf (c .refusal) (c .count) (stateIn true c) ≡ c
+-- a flat head whose numbers are of their kind, read and laid flat again, is that flat head
+pub flat-back : (c : FlatHead) → plain c ≡ true → headOut (headIn true c) ≡ c
 unfolding plain
 flat-back c h =
-    let head : plainHead c ≡ true = and-left _ _ h in
-    let past-mode = and-right (isFlag (c .mode)) _ head in
+    let past-mode = and-right (isFlag (c .mode)) _ h in
     let past-group = and-right (isFlag (c .group .begun)) _ past-mode in
     let e = and-left (plainEnd (c .settings .bounded) (c .settings .end)) _ past-group in
     let ts = and-right (plainEnd (c .settings .bounded) (c .settings .end)) _ past-group in
-    let frames = map-back-where frameIn frameOut plainFrame frame-out-back (c .frames) (and-right (plainHead c) _ h) in
     let tracks = map-back-where trackIn trackOut plainTrack track-out-back (c .tracks) ts in
     let ntracks = ap (λ (b : Bool). cond b (c .ntracks) 0) h in
-    let mode = mode-out-back (c .mode) (and-left _ _ head) in
+    let mode = mode-out-back (c .mode) (and-left _ _ h) in
     let begun = flag-out-back (c .group .begun) (and-left _ _ past-mode) in
     let bounded = bounded-out-back (c .settings .bounded) (c .settings .end) e in
     let end = end-out-back (c .settings .bounded) (c .settings .end) e in
     λ i. record {
-      frames = frames i;
-      nframes = c .nframes;
       tracks = tracks i;
       ntracks = ntracks i;
+      nframes = c .nframes;
       mode = mode i;
       last = c .last;
       group = record { begun = begun i; start = c .group .start; end = c .group .end };
@@ -191,8 +176,6 @@ flat-back c h =
         end = end i;
         limit = c .settings .limit;
       };
-      refusal = c .refusal;
-      count = c .count;
     }
 
 -- ---- a number that is none of its kind
@@ -201,13 +184,14 @@ and-fails : (a b : Bool) → b ≡ false → (a && b) ≡ false
 and-fails true b e = e
 and-fails false b e = refl
 
--- a state without tracks is not well-formed
-trackless-ill : (c : Flat) → wellFormed (stateWith 0 c) ≡ false
-unfolding wellFormed goodBuffer goodTracks
-trackless-ill c = and-fails (laidOut (stateWith 0 c)) _ refl
+-- a head without tracks holds no well-formed state
+trackless-ill : (c : FlatHead) (ts : List (List ℤ)) (gs : List (List ℕ)) → wellFormedAt (headWith 0 c) ts gs ≡ false
+unfolding wellFormedAt wellFormed goodBuffer goodTracks
+trackless-ill c ts gs =
+    and-fails (eqb (length ts) places && eqb (length gs) places) _ (and-fails (allOf plainTime ts) _ (and-fails (allOf plainTag gs) _ (and-fails (laidOut (stateAt (headWith 0 c) ts gs)) _ refl)))
 
-pub spoilt-refused : {A : Type 0} (call : Buffer → Result A) (told : Bool) (c : Flat) → (told && plain c) ≡ false
-    → onState call (stateIn told c) ≡ refused IllFormed
-spoilt-refused call told c h =
-    ill-formed-refused call (stateIn told c)
-    (ap (λ (b : Bool). wellFormed (stateWith (cond b (c .ntracks) 0) c)) h ∙ trackless-ill c)
+pub spoilt-refused : {A : Type 0} (call : Buffer → Result A) (told : Bool) (c : FlatHead) (ts : List (List ℤ)) (gs : List (List ℕ)) → (told && plain c) ≡ false
+    → onLent call (headIn told c) ts gs ≡ refused IllFormed
+spoilt-refused call told c ts gs h =
+    ill-formed-refused call (headIn told c) ts gs
+    (ap (λ (b : Bool). wellFormedAt (headWith (cond b (c .ntracks) 0) c) ts gs) h ∙ trackless-ill c ts gs)

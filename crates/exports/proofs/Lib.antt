@@ -1,4 +1,3 @@
 pub mod CopyLaws
-pub mod LoopLaws
 pub mod FlatLaws
 pub mod CallLaws

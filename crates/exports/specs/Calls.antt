@@ -1,9 +1,9 @@
--- What each exported call answers, from the call's own definition: after a refusal the flat state that was handed in, else the new
--- state laid flat; the refusal number, 0 where there is none, and the count beside it.
-use mathlib.Core.Path.{_≡_}
+-- What each exported call answers, from the call's own definition: after a refusal the flat head that was handed in, else the new
+-- head laid flat; the refusal number, 0 where there is none, and the count beside it.
 use mathlib.Core.Bool.{true}
-use mathlib.Core.List.{map}
+use mathlib.Core.List.{List}
 use Prim.Native.Nat.{ℕ}
+use lib.IntN.{ℤ}
 use lib.Ieee.{Float}
 use lib.ListN.{length}
 use Rattle.seconds.specs.Seconds.{zeroSeconds}
@@ -12,68 +12,56 @@ use Rattle.buffer_state.specs.declared.Answer.the-variants as Answer
 use Rattle.buffer_state.specs.declared.Changed.{Changed}
 use Rattle.buffer_state.specs.declared.Count.{Count}
 use Rattle.buffer_state.specs.declared.Count.the-variants as Count
+use Rattle.buffer_state.specs.declared.Head.{Head}
 use Rattle.buffer_state.specs.declared.Read.{Read}
 use Rattle.buffer_state.specs.declared.Read.the-variants as Read
-use Rattle.buffer_state.specs.declared.State.{State}
 use Rattle.buffer_state.specs.Answers.{appendResult, removeResult}
 use Rattle.buffer_state.specs.Append.{Outcome}
-use Rattle.buffer_state.specs.Layout.{stateOf}
+use Rattle.buffer_state.specs.Lent.{headOf}
 use Rattle.buffer_state.specs.Refusals.{Result, refused, done, refusalNumber}
-use Rattle.exports.specs.declared.Flat.{Flat}
+use Rattle.exports.specs.declared.Answered.{Answered}
+use Rattle.exports.specs.declared.FlatHead.{FlatHead}
 use Rattle.exports.specs.declared.FlatOffered.{FlatOffered}
 use Rattle.exports.specs.declared.Reading.{Reading}
 use Rattle.exports.specs.declared.Report.{Report}
-use Rattle.exports.specs.Flat.{isFlag, frameOut, flatOf, stateIn, offeredIn}
+use Rattle.exports.specs.Flat.{isFlag, headIn, headOut, offeredIn}
 
--- handed back as it came, with the refusal's number
-abbrev pub refusedFlat : Flat → ℕ → Flat
-refusedFlat c why = record {
-  frames = c .frames;
-  nframes = c .nframes;
-  tracks = c .tracks;
-  ntracks = c .ntracks;
-  mode = c .mode;
-  last = c .last;
-  group = c .group;
-  settings = c .settings;
-  refusal = why;
-  count = 0;
-}
+-- the head as it came, with the refusal's number
+abbrev pub refusedWith : FlatHead → ℕ → Answered
+refusedWith c why = record { head = c; refusal = why; count = 0 }
 
--- ---- abort and the setters
+-- the head after the call, and its count
+abbrev pub doneWith : Head → ℕ → Answered
+doneWith h n = record { head = headOut h; refusal = 0; count = n }
 
--- a state's frames, laid flat, are those of a flat state
-pub record FramesKept (c : Flat) (s : State) : Type 0 where
-  pub frames : map frameOut (s .frames) ≡ c .frames
-  pub nframes : s .nframes ≡ c .nframes
+-- ---- creation, abort and the setters
 
-abbrev pub changedOut : Flat → Answer → State → Flat
-changedOut c Answer.Done s = flatOf 0 0 s
-changedOut c (Answer.Refused why) s = refusedFlat c (refusalNumber why)
+abbrev pub changedOut : FlatHead → Answer → Head → Answered
+changedOut c Answer.Done h = doneWith h 0
+changedOut c (Answer.Refused why) h = refusedWith c (refusalNumber why)
 
-abbrev pub handedBack : Flat → Changed → Flat
-handedBack c r = changedOut c (r .answer) (r .state)
+abbrev pub handedBack : FlatHead → Changed → Answered
+handedBack c r = changedOut c (r .answer) (r .head)
 
--- creation: after a refusal the state of zeros
-abbrev pub createdOut : Answer → State → Flat
-createdOut Answer.Done s = flatOf 0 0 s
-createdOut (Answer.Refused why) s = flatOf (refusalNumber why) 0 s
+-- creation: after a refusal the head of zeros
+abbrev pub createdOut : Changed → Answered
+createdOut r = handedBack (headOut (r .head)) r
 
 -- ---- append and remove
 
-abbrev pub countedOut : Flat → Count → State → Flat
-countedOut c (Count.Done n) s = flatOf 0 n s
-countedOut c (Count.Refused why) s = refusedFlat c (refusalNumber why)
+abbrev pub countedOut : FlatHead → Count → Head → Answered
+countedOut c (Count.Done n) h = doneWith h n
+countedOut c (Count.Refused why) h = refusedWith c (refusalNumber why)
 
-abbrev pub appendFlat : ℕ → FlatOffered → Flat → Result Outcome
-appendFlat lent f c = appendResult lent (offeredIn f) (stateIn (isFlag (f .flagged)) c)
+abbrev pub appendFlat : ℕ → FlatOffered → FlatHead → List (List ℤ) → List (List ℕ) → Result Outcome
+appendFlat lent f c = appendResult lent (offeredIn f) (headIn (isFlag (f .flagged)) c)
 
-abbrev pub removeFlat : ℕ → Float → Float → Flat → Result Outcome
-removeFlat lent start end c = removeResult lent start end (stateIn true c)
+abbrev pub removeFlat : ℕ → Float → Float → FlatHead → List (List ℤ) → List (List ℕ) → Result Outcome
+removeFlat lent start end c = removeResult lent start end (headIn true c)
 
-abbrev pub outcomeOut : Flat → Result Outcome → Flat
-outcomeOut c (refused why) = refusedFlat c (refusalNumber why)
-outcomeOut c (done o) = flatOf 0 (length (o .lines)) (stateOf (o .after))
+abbrev pub outcomeOut : FlatHead → Result Outcome → Answered
+outcomeOut c (refused why) = refusedWith c (refusalNumber why)
+outcomeOut c (done o) = doneWith (headOf (o .after)) (length (o .lines))
 
 -- ---- the reports and the settings
 

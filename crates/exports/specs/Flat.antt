@@ -1,27 +1,25 @@
--- A state laid flat for callers in C and Rust: numbers alone, so that every bit pattern is a value. A flag is 0 or 1, the mode is 0
--- (segments) or 1 (sequence), and a window end is a flag beside a double, zero where there is none. `flatOf` and `stateIn` undo each
--- other wherever each number is one of its kind (proofs/FlatLaws.antt); where one is not, `stateIn` gives a state that every call refuses.
+-- A head laid flat for callers in C and Rust: numbers alone, so that every bit pattern is a value. A flag is 0 or 1, the mode is 0
+-- (segments) or 1 (sequence), and a window end is a flag beside a double, zero where there is none. `headOut` and `headIn` undo each
+-- other wherever each number is one of its kind (proofs/FlatLaws.antt); where one is not, `headIn` gives a head that every call refuses.
 use mathlib.Core.Bool.{Bool, true, cond, _&&_}
 use mathlib.Core.List.{map}
 use Prim.Native.Nat.{ℕ}
 use lib.Dec.{leb, eqb}
 use lib.Ieee.{Float}
 use Rattle.seconds.specs.Seconds.{zeroSeconds, sameDouble}
-use Rattle.buffer_state.specs.declared.Frame.{Frame}
 use Rattle.buffer_state.specs.declared.Group.{Group}
+use Rattle.buffer_state.specs.declared.Head.{Head}
 use Rattle.buffer_state.specs.declared.Mode.{Mode}
 use Rattle.buffer_state.specs.declared.Mode.the-variants.{Segments, Sequence}
 use Rattle.buffer_state.specs.declared.Offered.{Offered}
 use Rattle.buffer_state.specs.declared.Setting.{Setting}
 use Rattle.buffer_state.specs.declared.Settings.{Settings}
-use Rattle.buffer_state.specs.declared.State.{State}
 use Rattle.buffer_state.specs.declared.Track.{Track}
 use Rattle.buffer_state.specs.declared.WindowEnd.{WindowEnd}
 use Rattle.buffer_state.specs.declared.WindowEnd.the-variants.{Unbounded, At}
 use Rattle.buffer_state.specs.WellFormed.{allOf}
-use Rattle.exports.specs.declared.Flat.{Flat}
-use Rattle.exports.specs.declared.FlatFrame.{FlatFrame}
 use Rattle.exports.specs.declared.FlatGroup.{FlatGroup}
+use Rattle.exports.specs.declared.FlatHead.{FlatHead}
 use Rattle.exports.specs.declared.FlatOffered.{FlatOffered}
 use Rattle.exports.specs.declared.FlatSetting.{FlatSetting}
 use Rattle.exports.specs.declared.FlatSettings.{FlatSettings}
@@ -58,13 +56,7 @@ abbrev pub endOut : WindowEnd → Float
 endOut Unbounded = zeroSeconds
 endOut (At x) = x
 
--- ---- the parts of a state
-
-abbrev pub frameIn : FlatFrame → Frame
-frameIn f = record { track = f .track; flagged = flagIn (f .flagged); duration = f .duration; number = f .number; pts = f .pts; dts = f .dts }
-
-abbrev pub frameOut : Frame → FlatFrame
-frameOut f = record { track = f .track; flagged = flagOut (f .flagged); duration = f .duration; number = f .number; pts = f .pts; dts = f .dts }
+-- ---- the parts of a head
 
 abbrev pub trackIn : FlatTrack → Track
 trackIn t =
@@ -97,10 +89,7 @@ settingsOut t =
 abbrev pub offeredIn : FlatOffered → Offered
 offeredIn f = record { track = f .track; flagged = flagIn (f .flagged); duration = f .duration; pts = f .pts; dts = f .dts }
 
--- ---- whether each number of a flat state is one of its kind
-
-abbrev pub plainFrame : FlatFrame → Bool
-plainFrame f = isFlag (f .flagged)
+-- ---- whether each number of a flat head is one of its kind
 
 abbrev pub plainTrack : FlatTrack → Bool
 plainTrack t = isFlag (t .known) && isFlag (t .need)
@@ -109,45 +98,36 @@ plainTrack t = isFlag (t .known) && isFlag (t .need)
 abbrev pub plainEnd : ℕ → Float → Bool
 plainEnd bounded x = cond (eqb bounded 1) true (eqb bounded 0 && sameDouble x zeroSeconds)
 
--- all but the frames
-abbrev pub plainHead : Flat → Bool
-plainHead c =
+unfoldable pub plain : FlatHead → Bool
+plain c =
     isFlag (c .mode) && (isFlag (c .group .begun) && (plainEnd (c .settings .bounded) (c .settings .end) && allOf plainTrack (c .tracks)))
 
-unfoldable pub plain : Flat → Bool
-plain c = plainHead c && allOf plainFrame (c .frames)
+-- ---- the head
 
--- ---- the state
-
--- a state laid flat, beside a call's refusal number (0: done) and its count
-abbrev pub flatOf : ℕ → ℕ → State → Flat
-flatOf refusal count s = record {
-  frames = map frameOut (s .frames);
-  nframes = s .nframes;
-  tracks = map trackOut (s .tracks);
-  ntracks = s .ntracks;
-  mode = modeOut (s .mode);
-  last = s .last;
-  group = groupOut (s .group);
-  settings = settingsOut (s .settings);
-  refusal = refusal;
-  count = count;
+abbrev pub headOut : Head → FlatHead
+headOut h = record {
+  tracks = map trackOut (h .tracks);
+  ntracks = h .ntracks;
+  nframes = h .nframes;
+  mode = modeOut (h .mode);
+  last = h .last;
+  group = groupOut (h .group);
+  settings = settingsOut (h .settings);
 }
 
--- a flat state read, with so many tracks
-abbrev pub stateWith : ℕ → Flat → State
-stateWith ntracks c = record {
-  frames = map frameIn (c .frames);
-  nframes = c .nframes;
+-- a flat head read, with so many tracks
+abbrev pub headWith : ℕ → FlatHead → Head
+headWith ntracks c = record {
   tracks = map trackIn (c .tracks);
   ntracks = ntracks;
+  nframes = c .nframes;
   mode = modeIn (c .mode);
   group = groupIn (c .group);
   last = c .last;
   settings = settingsIn (c .settings);
 }
 
--- Where one of its numbers is none of its kind, or where the call's own numbers are not (`told` is false), a flat state is read as
+-- Where one of its numbers is none of its kind, or where the call's own numbers are not (`told` is false), a flat head is read as
 -- one without tracks, which is not well-formed, so that the call is refused 1.
-abbrev pub stateIn : Bool → Flat → State
-stateIn told c = stateWith (cond (told && plain c) (c .ntracks) 0) c
+abbrev pub headIn : Bool → FlatHead → Head
+headIn told c = headWith (cond (told && plain c) (c .ntracks) 0) c

@@ -1,49 +1,37 @@
-// The calls for programs in C, C++ and Rust, on a state laid flat: numbers alone. include/galumper.h declares the same for C.
+// The calls for programs in C, C++ and Rust: the head laid flat as numbers, by value, and the arrays as the program lends them.
+// include/galumper.h declares the same for C, and a buffer of a head and its arrays with calls that take a pointer to it.
 // Any bits may be handed in. A flag is a byte and no bool, since a bool that holds neither 0 nor 1 must not even be loaded; a
 // number that is none of its kind has the call refused 1.
 ghost use mathlib.Core.Path.{_≡_};
 ghost use mathlib.Core.Bool.{true, cond};
 ghost use mathlib.Core.List.{map};
 ghost use lib.ListN.{length};
-ghost use Rattle.buffer_state.specs.declared.Answer.the-variants.{Done};
-ghost use Rattle.buffer_state.specs.Answers.{listAfter, abortAnswer, modeAnswer, offsetAnswer, windowStartAnswer, windowEndAnswer, settingsAnswer, createAnswer, rangeCount, rangesAfter, trackRangesResult, commonRangesResult};
+ghost use Rattle.buffer_state.specs.Answers.{timesCreated, tagsCreated, timesAfter, tagsAfter, listAfter, abortAnswer, modeAnswer, offsetAnswer, windowStartAnswer, windowEndAnswer, settingsAnswer, createAnswer, rangeCount, rangesAfter, trackRangesResult, commonRangesResult};
 ghost use Rattle.buffer_state.specs.Refusals.{refusalNumber};
+ghost use Rattle.buffer_state.specs.Settings.{create};
 ghost use Rattle.buffer_state.specs.WellFormed.{allOf};
-ghost use Rattle.exports.specs.Calls.{FramesKept, refusedFlat, changedOut, handedBack, createdOut, countedOut, outcomeOut, appendFlat, removeFlat, reportOut, readingOut};
-ghost use Rattle.exports.specs.Flat.{isFlag, flagOut, modeIn, modeOut, endIn, boundedOut, endOut, frameIn, frameOut, trackIn, trackOut, groupIn, groupOut, settingIn, settingOut, settingsIn, settingsOut, offeredIn, plainTrack, plainEnd, plainHead, flatOf, stateIn};
+ghost use Rattle.exports.specs.Calls.{refusedWith, doneWith, changedOut, handedBack, createdOut, countedOut, outcomeOut, appendFlat, removeFlat, reportOut, readingOut};
+ghost use Rattle.exports.specs.Flat.{isFlag, flagOut, modeIn, modeOut, endIn, boundedOut, endOut, trackIn, trackOut, groupIn, groupOut, settingIn, settingOut, settingsIn, settingsOut, offeredIn, plainTrack, plainEnd, plain, headIn, headOut};
 use buffer_state::Answer;
 use buffer_state::Count;
-use buffer_state::Frame;
 use buffer_state::Group;
+use buffer_state::Head;
 use buffer_state::Mode;
 use buffer_state::Offered;
 use buffer_state::Read;
 use buffer_state::Refusal;
 use buffer_state::Setting;
 use buffer_state::Settings;
-use buffer_state::State;
 use buffer_state::Track;
 use buffer_state::WindowEnd;
-
-const PLACES: usize = 1024;
 
 // ---- what C sees
 
 #[repr(C)]
 pub struct FlatOffered {
-    pub track: u8,
+    pub track: u32,
     pub flagged: u8,
     pub duration: u32,
-    pub pts: i64,
-    pub dts: i64,
-}
-
-#[repr(C)]
-pub struct FlatFrame {
-    pub track: u8,
-    pub flagged: u8,
-    pub duration: u32,
-    pub number: u32,
     pub pts: i64,
     pub dts: i64,
 }
@@ -80,18 +68,22 @@ pub struct FlatSettings {
     pub limit: i64,
 }
 
-// The state, and what the call that handed it out answered: its refusal number (0: done) and how many fate lines it wrote. One
-// struct, since a struct around it would be one more copy of the frames, 32 KB.
+// All of a state but its frames.
 #[repr(C)]
-pub struct Flat {
-    pub frames: [FlatFrame; 1024],
-    pub nframes: usize,
+pub struct FlatHead {
     pub tracks: [FlatTrack; 4],
     pub ntracks: usize,
+    pub nframes: usize,
     pub mode: u32,
     pub last: u32,
     pub group: FlatGroup,
     pub settings: FlatSettings,
+}
+
+// What a call that can change the state answers: the head after it, its refusal number (0: done) and how many fate lines it wrote.
+#[repr(C)]
+pub struct Answered {
+    pub head: FlatHead,
     pub refusal: u32,
     pub count: usize,
 }
@@ -169,34 +161,7 @@ fn end_out(end: WindowEnd) -> f64
     }
 }
 
-// ---- the parts of a state, in and out
-
-fn frame_in(f: FlatFrame) -> Frame
-    ensures { λ r. ⌜ r ≡ frameIn f ⌝ }
-{
-    Frame {
-        track: f.track,
-        flagged: f.flagged == 1,
-        duration: f.duration,
-        number: f.number,
-        pts: f.pts,
-        dts: f.dts,
-    }
-}
-
-fn frame_out(f: Frame) -> FlatFrame
-    ensures { λ r. ⌜ r ≡ frameOut f ⌝ }
-{
-    let flagged = flag_out(f.flagged);
-    FlatFrame {
-        track: f.track,
-        flagged,
-        duration: f.duration,
-        number: f.number,
-        pts: f.pts,
-        dts: f.dts,
-    }
-}
+// ---- the parts of a head, in and out
 
 fn track_in(t: FlatTrack) -> Track
     ensures { λ r. ⌜ r ≡ trackIn t ⌝ }
@@ -328,7 +293,7 @@ fn offered_in(f: FlatOffered) -> Offered
     }
 }
 
-// ---- whether each number of a flat state is one of its kind
+// ---- whether each number of a flat head is one of its kind
 
 fn plain_track(t: FlatTrack) -> bool
     ensures { λ r. ⌜ r ≡ plainTrack t ⌝ }
@@ -357,8 +322,8 @@ fn plain_end(bounded: u8, x: f64) -> bool
     (bounded == 0) & zero
 }
 
-fn plain_head(c: Flat) -> bool
-    ensures { λ r. ⌜ r ≡ plainHead c ⌝ }
+fn plain_head(c: FlatHead) -> bool
+    ensures { λ r. ⌜ r ≡ plain c ⌝ }
 {
     let g = c.group;
     let t = c.settings;
@@ -368,9 +333,9 @@ fn plain_head(c: Flat) -> bool
     (c.mode <= 1) & ((g.begun <= 1) & (end & tracks))
 }
 
-// ---- the state
+// ---- the head
 
-// The count of tracks of a flat state whose numbers are all of their kind; else none, so that the state is not well-formed.
+// The count of tracks of a flat head whose numbers are all of their kind; else none, so that the state is not well-formed.
 fn count_in(ok: bool, n: usize) -> usize
     ensures { λ r. ⌜ r ≡ cond ok n 0 ⌝ }
 {
@@ -380,38 +345,21 @@ fn count_in(ok: bool, n: usize) -> usize
     0
 }
 
-// A flat state read, for a call whose own numbers are of their kind where `told`.
-fn state_in(c: Flat, told: bool) -> State
-    ensures { λ r. ⌜ r ≡ stateIn told c ⌝ }
+// A flat head read, for a call whose own numbers are of their kind where `told`.
+fn head_in(c: FlatHead, told: bool) -> Head
+    ensures { λ r. ⌜ r ≡ headIn told c ⌝ }
 {
-    let z = Frame {
-        track: 0,
-        flagged: false,
-        duration: 0,
-        number: 0,
-        pts: 0,
-        dts: 0,
-    };
-    let mut frames = [z; 1024];
-    let mut ok = told & plain_head(c);
-    let mut i: usize = 0;
-    while i < PLACES {
-        let f = c.frames[i];
-        frames[i] = frame_in(f);
-        ok = ok & (f.flagged <= 1);
-        i += 1;
-    }
+    let ok = told & plain_head(c);
     let ts = c.tracks;
     let tracks = tracks_in(ts);
     let ntracks = count_in(ok, c.ntracks);
     let mode = mode_in(c.mode);
     let group = group_in(c.group);
     let settings = settings_in(c.settings);
-    State {
-        frames,
-        nframes: c.nframes,
+    Head {
         tracks,
         ntracks,
+        nframes: c.nframes,
         mode,
         group,
         last: c.last,
@@ -419,107 +367,66 @@ fn state_in(c: Flat, told: bool) -> State
     }
 }
 
-// A state laid flat.
-fn flat_of(s: State, refusal: u32, count: usize) -> Flat
-    ensures { λ r. ⌜ r ≡ flatOf refusal count s ⌝ }
+// A head laid flat.
+fn head_out(h: Head) -> FlatHead
+    ensures { λ r. ⌜ r ≡ headOut h ⌝ }
 {
-    let z = FlatFrame {
-        track: 0,
-        flagged: 0,
-        duration: 0,
-        number: 0,
-        pts: 0,
-        dts: 0,
-    };
-    let mut frames = [z; 1024];
-    let mut i: usize = 0;
-    while i < PLACES {
-        let f = s.frames[i];
-        frames[i] = frame_out(f);
-        i += 1;
-    }
-    let ts = s.tracks;
+    let ts = h.tracks;
     let tracks = tracks_out(ts);
-    let m = s.mode;
+    let m = h.mode;
     let mode = mode_out(m);
-    let group = group_out(s.group);
-    let settings = settings_out(s.settings);
-    Flat {
-        frames,
-        nframes: s.nframes,
+    let group = group_out(h.group);
+    let settings = settings_out(h.settings);
+    FlatHead {
         tracks,
-        ntracks: s.ntracks,
+        ntracks: h.ntracks,
+        nframes: h.nframes,
         mode,
-        last: s.last,
+        last: h.last,
         group,
         settings,
-        refusal,
-        count,
-    }
-}
-
-// A state with the frames of a flat state, laid flat: those frames, and all else anew.
-fn head_out(c: Flat, s: State) -> Flat
-    requires { ⌜ FramesKept c s ⌝ }
-    ensures { λ r. ⌜ r ≡ flatOf 0 0 s ⌝ }
-{
-    let ts = s.tracks;
-    let tracks = tracks_out(ts);
-    let m = s.mode;
-    let mode = mode_out(m);
-    let group = group_out(s.group);
-    let settings = settings_out(s.settings);
-    Flat {
-        tracks,
-        ntracks: s.ntracks,
-        mode,
-        last: s.last,
-        group,
-        settings,
-        refusal: 0,
-        count: 0,
-        ..c
-    }
-}
-
-fn refused(c: Flat, why: Refusal) -> Flat
-    ensures { λ r. ⌜ r ≡ refusedFlat c (refusalNumber why) ⌝ }
-{
-    let refusal = buffer_state::refusal_number(why);
-    Flat {
-        refusal,
-        count: 0,
-        ..c
     }
 }
 
 // ---- what a call answered, laid flat
 
-// Abort and the setters touch no frame, so the frames of the flat state that was handed in are handed back, without a pass over them.
-fn changed_out(c: Flat, answer: Answer, s: State) -> Flat
-    requires { ⌜ (answer ≡ Done → FramesKept c s) ⌝ }
-    ensures { λ r. ⌜ r ≡ changedOut c answer s ⌝ }
+// The head as it came, with the refusal's number.
+fn refused(c: FlatHead, why: Refusal) -> Answered
+    ensures { λ r. ⌜ r ≡ refusedWith c (refusalNumber why) ⌝ }
+{
+    let refusal = buffer_state::refusal_number(why);
+    Answered {
+        head: c,
+        refusal,
+        count: 0,
+    }
+}
+
+fn done(h: Head, count: usize) -> Answered
+    ensures { λ r. ⌜ r ≡ doneWith h count ⌝ }
+{
+    let head = head_out(h);
+    Answered {
+        head,
+        refusal: 0,
+        count,
+    }
+}
+
+fn changed_out(c: FlatHead, answer: Answer, h: Head) -> Answered
+    ensures { λ r. ⌜ r ≡ changedOut c answer h ⌝ }
 {
     match answer {
-        Answer::Done => head_out(c, s),
+        Answer::Done => done(h, 0),
         Answer::Refused(why) => refused(c, why),
     }
 }
 
-fn created_out(answer: Answer, s: State) -> Flat
-    ensures { λ r. ⌜ r ≡ createdOut answer s ⌝ }
+fn counted_out(c: FlatHead, answer: Count, h: Head) -> Answered
+    ensures { λ r. ⌜ r ≡ countedOut c answer h ⌝ }
 {
     match answer {
-        Answer::Done => flat_of(s, 0, 0),
-        Answer::Refused(why) => flat_of(s, buffer_state::refusal_number(why), 0),
-    }
-}
-
-fn counted_out(c: Flat, answer: Count, s: State) -> Flat
-    ensures { λ r. ⌜ r ≡ countedOut c answer s ⌝ }
-{
-    match answer {
-        Count::Done(n) => flat_of(s, 0, n),
+        Count::Done(n) => done(h, n),
         Count::Refused(why) => refused(c, why),
     }
 }
@@ -569,122 +476,184 @@ fn reading_out(answer: Read) -> Reading
 
 // ---- the calls
 
-// A buffer from a lent list of kinds.
+// A buffer from a lent list of kinds: it clears the arrays. Refused, it touches nothing, and its head is of zeros.
 #[no_mangle]
-pub extern "C" fn galumper_create(kinds: &[u8]) -> Flat
-    ensures { λ r. ⌜ r ≡ createdOut (createAnswer (now (kinds .entry)) .answer) (createAnswer (now (kinds .entry)) .state) ⌝ }
+pub extern "C" fn galumper_lent_create(
+    kinds: &[u8],
+    times: &mut [[i64; 2]; 1024],
+    tags: &mut [[u32; 4]; 1024],
+) -> Answered
+    ensures answer { λ r. ⌜ r ≡ createdOut (createAnswer (now (kinds .entry))) ⌝ }
+    ensures times { λ r. ⌜ now (times .exit) ≡ timesCreated (create (now (kinds .entry))) (now (times .entry)) ⌝ }
+    ensures tags { λ r. ⌜ now (tags .exit) ≡ tagsCreated (create (now (kinds .entry))) (now (tags .entry)) ⌝ }
 {
-    let r = settings::create(kinds);
+    let r = settings::create(kinds, times, tags);
     let answer = r.answer;
-    let s = r.state;
-    created_out(answer, s)
+    let h = r.head;
+    changed_out(head_out(h), answer, h)
 }
 
 // Append one frame.
 #[no_mangle]
-pub extern "C" fn galumper_append(c: Flat, f: FlatOffered, fates: &mut [[u32; 2]]) -> Flat
-    ensures { λ r. ⌜ r ≡ outcomeOut c (appendFlat (length (now (fates .entry))) f c) ⌝ }
-    ensures { λ r. ⌜ now (fates .exit) ≡ listAfter (appendFlat (length (now (fates .entry))) f c) (now (fates .entry)) ⌝ }
+pub extern "C" fn galumper_lent_append(
+    c: FlatHead,
+    f: FlatOffered,
+    times: &mut [[i64; 2]; 1024],
+    tags: &mut [[u32; 4]; 1024],
+    fates: &mut [[u32; 2]],
+) -> Answered
+    ensures answer { λ r. ⌜ r ≡ outcomeOut c (appendFlat (length (now (fates .entry))) f c (now (times .entry)) (now (tags .entry))) ⌝ }
+    ensures times { λ r. ⌜ now (times .exit) ≡ timesAfter (appendFlat (length (now (fates .entry))) f c (now (times .entry)) (now (tags .entry))) (now (times .entry)) ⌝ }
+    ensures tags { λ r. ⌜ now (tags .exit) ≡ tagsAfter (appendFlat (length (now (fates .entry))) f c (now (times .entry)) (now (tags .entry))) (now (tags .entry)) ⌝ }
+    ensures lines { λ r. ⌜ now (fates .exit) ≡ listAfter (appendFlat (length (now (fates .entry))) f c (now (times .entry)) (now (tags .entry))) (now (fates .entry)) ⌝ }
 {
-    let s = state_in(c, f.flagged <= 1);
-    let r = append::append(s, offered_in(f), fates);
+    let h = head_in(c, f.flagged <= 1);
+    let r = append::append(h, offered_in(f), times, tags, fates);
     let answer = r.answer;
-    let t = r.state;
-    counted_out(c, answer, t)
+    let k = r.head;
+    counted_out(c, answer, k)
 }
 
 // Remove a stretch of time.
 #[no_mangle]
-pub extern "C" fn galumper_remove(c: Flat, start: f64, end: f64, fates: &mut [[u32; 2]]) -> Flat
-    ensures { λ r. ⌜ r ≡ outcomeOut c (removeFlat (length (now (fates .entry))) start end c) ⌝ }
-    ensures { λ r. ⌜ now (fates .exit) ≡ listAfter (removeFlat (length (now (fates .entry))) start end c) (now (fates .entry)) ⌝ }
+pub extern "C" fn galumper_lent_remove(
+    c: FlatHead,
+    start: f64,
+    end: f64,
+    times: &mut [[i64; 2]; 1024],
+    tags: &mut [[u32; 4]; 1024],
+    fates: &mut [[u32; 2]],
+) -> Answered
+    ensures answer { λ r. ⌜ r ≡ outcomeOut c (removeFlat (length (now (fates .entry))) start end c (now (times .entry)) (now (tags .entry))) ⌝ }
+    ensures times { λ r. ⌜ now (times .exit) ≡ timesAfter (removeFlat (length (now (fates .entry))) start end c (now (times .entry)) (now (tags .entry))) (now (times .entry)) ⌝ }
+    ensures tags { λ r. ⌜ now (tags .exit) ≡ tagsAfter (removeFlat (length (now (fates .entry))) start end c (now (times .entry)) (now (tags .entry))) (now (tags .entry)) ⌝ }
+    ensures lines { λ r. ⌜ now (fates .exit) ≡ listAfter (removeFlat (length (now (fates .entry))) start end c (now (times .entry)) (now (tags .entry))) (now (fates .entry)) ⌝ }
 {
-    let s = state_in(c, true);
-    let r = remove::remove(s, start, end, fates);
+    let h = head_in(c, true);
+    let r = remove::remove(h, start, end, times, tags, fates);
     let answer = r.answer;
-    let t = r.state;
-    counted_out(c, answer, t)
+    let k = r.head;
+    counted_out(c, answer, k)
 }
 
 #[no_mangle]
-pub extern "C" fn galumper_abort(c: Flat) -> Flat
-    ensures { λ r. ⌜ r ≡ handedBack c (abortAnswer (stateIn true c)) ⌝ }
+pub extern "C" fn galumper_lent_abort(
+    c: FlatHead,
+    times: &[[i64; 2]; 1024],
+    tags: &[[u32; 4]; 1024],
+) -> Answered
+    ensures { λ r. ⌜ r ≡ handedBack c (abortAnswer (headIn true c) (now (times .entry)) (now (tags .entry))) ⌝ }
 {
-    let s = state_in(c, true);
-    let r = settings::abort(s);
+    let h = head_in(c, true);
+    let r = settings::abort(h, times, tags);
     let answer = r.answer;
-    let t = r.state;
-    changed_out(c, answer, t)
+    let k = r.head;
+    changed_out(c, answer, k)
 }
 
 #[no_mangle]
-pub extern "C" fn galumper_set_mode(c: Flat, mode: u32) -> Flat
-    ensures { λ r. ⌜ r ≡ handedBack c (modeAnswer (modeIn mode) (stateIn (isFlag mode) c)) ⌝ }
+pub extern "C" fn galumper_lent_set_mode(
+    c: FlatHead,
+    times: &[[i64; 2]; 1024],
+    tags: &[[u32; 4]; 1024],
+    mode: u32,
+) -> Answered
+    ensures { λ r. ⌜ r ≡ handedBack c (modeAnswer (modeIn mode) (headIn (isFlag mode) c) (now (times .entry)) (now (tags .entry))) ⌝ }
 {
-    let s = state_in(c, mode <= 1);
-    let r = settings::set_mode(s, mode_in(mode));
+    let h = head_in(c, mode <= 1);
+    let r = settings::set_mode(h, times, tags, mode_in(mode));
     let answer = r.answer;
-    let t = r.state;
-    changed_out(c, answer, t)
+    let k = r.head;
+    changed_out(c, answer, k)
 }
 
 #[no_mangle]
-pub extern "C" fn galumper_set_offset(c: Flat, seconds: f64) -> Flat
-    ensures { λ r. ⌜ r ≡ handedBack c (offsetAnswer seconds (stateIn true c)) ⌝ }
+pub extern "C" fn galumper_lent_set_offset(
+    c: FlatHead,
+    times: &[[i64; 2]; 1024],
+    tags: &[[u32; 4]; 1024],
+    seconds: f64,
+) -> Answered
+    ensures { λ r. ⌜ r ≡ handedBack c (offsetAnswer seconds (headIn true c) (now (times .entry)) (now (tags .entry))) ⌝ }
 {
-    let s = state_in(c, true);
-    let r = settings::set_offset(s, seconds);
+    let h = head_in(c, true);
+    let r = settings::set_offset(h, times, tags, seconds);
     let answer = r.answer;
-    let t = r.state;
-    changed_out(c, answer, t)
+    let k = r.head;
+    changed_out(c, answer, k)
 }
 
 #[no_mangle]
-pub extern "C" fn galumper_set_window_start(c: Flat, seconds: f64) -> Flat
-    ensures { λ r. ⌜ r ≡ handedBack c (windowStartAnswer seconds (stateIn true c)) ⌝ }
+pub extern "C" fn galumper_lent_set_window_start(
+    c: FlatHead,
+    times: &[[i64; 2]; 1024],
+    tags: &[[u32; 4]; 1024],
+    seconds: f64,
+) -> Answered
+    ensures { λ r. ⌜ r ≡ handedBack c (windowStartAnswer seconds (headIn true c) (now (times .entry)) (now (tags .entry))) ⌝ }
 {
-    let s = state_in(c, true);
-    let r = settings::set_window_start(s, seconds);
+    let h = head_in(c, true);
+    let r = settings::set_window_start(h, times, tags, seconds);
     let answer = r.answer;
-    let t = r.state;
-    changed_out(c, answer, t)
+    let k = r.head;
+    changed_out(c, answer, k)
 }
 
 #[no_mangle]
-pub extern "C" fn galumper_set_window_end(c: Flat, seconds: f64) -> Flat
-    ensures { λ r. ⌜ r ≡ handedBack c (windowEndAnswer seconds (stateIn true c)) ⌝ }
+pub extern "C" fn galumper_lent_set_window_end(
+    c: FlatHead,
+    times: &[[i64; 2]; 1024],
+    tags: &[[u32; 4]; 1024],
+    seconds: f64,
+) -> Answered
+    ensures { λ r. ⌜ r ≡ handedBack c (windowEndAnswer seconds (headIn true c) (now (times .entry)) (now (tags .entry))) ⌝ }
 {
-    let s = state_in(c, true);
-    let r = settings::set_window_end(s, seconds);
+    let h = head_in(c, true);
+    let r = settings::set_window_end(h, times, tags, seconds);
     let answer = r.answer;
-    let t = r.state;
-    changed_out(c, answer, t)
+    let k = r.head;
+    changed_out(c, answer, k)
 }
 
 #[no_mangle]
-pub extern "C" fn galumper_read_settings(c: Flat) -> Reading
-    ensures { λ r. ⌜ r ≡ readingOut (settingsAnswer (stateIn true c)) ⌝ }
+pub extern "C" fn galumper_lent_read_settings(
+    c: FlatHead,
+    times: &[[i64; 2]; 1024],
+    tags: &[[u32; 4]; 1024],
+) -> Reading
+    ensures { λ r. ⌜ r ≡ readingOut (settingsAnswer (headIn true c) (now (times .entry)) (now (tags .entry))) ⌝ }
 {
-    let s = state_in(c, true);
-    reading_out(settings::read_settings(s))
+    let h = head_in(c, true);
+    reading_out(settings::read_settings(h, times, tags))
 }
 
 // A track's ranges.
 #[no_mangle]
-pub extern "C" fn galumper_track_ranges(c: Flat, track: u8, list: &mut [[i64; 2]]) -> Report
-    ensures { λ r. ⌜ r ≡ reportOut (rangeCount (trackRangesResult (length (now (list .entry))) track (stateIn true c))) ⌝ }
-    ensures { λ r. ⌜ now (list .exit) ≡ rangesAfter (trackRangesResult (length (now (list .entry))) track (stateIn true c)) (now (list .entry)) ⌝ }
+pub extern "C" fn galumper_lent_track_ranges(
+    c: FlatHead,
+    times: &[[i64; 2]; 1024],
+    tags: &[[u32; 4]; 1024],
+    track: u32,
+    list: &mut [[i64; 2]],
+) -> Report
+    ensures { λ r. ⌜ r ≡ reportOut (rangeCount (trackRangesResult (length (now (list .entry))) track (headIn true c) (now (times .entry)) (now (tags .entry)))) ⌝ }
+    ensures { λ r. ⌜ now (list .exit) ≡ rangesAfter (trackRangesResult (length (now (list .entry))) track (headIn true c) (now (times .entry)) (now (tags .entry))) (now (list .entry)) ⌝ }
 {
-    let s = state_in(c, true);
-    report_out(ranges::track_ranges(s, track, list))
+    let h = head_in(c, true);
+    report_out(ranges::track_ranges(h, times, tags, track, list))
 }
 
 // The ranges common to all tracks.
 #[no_mangle]
-pub extern "C" fn galumper_common_ranges(c: Flat, list: &mut [[i64; 2]]) -> Report
-    ensures { λ r. ⌜ r ≡ reportOut (rangeCount (commonRangesResult (length (now (list .entry))) (stateIn true c))) ⌝ }
-    ensures { λ r. ⌜ now (list .exit) ≡ rangesAfter (commonRangesResult (length (now (list .entry))) (stateIn true c)) (now (list .entry)) ⌝ }
+pub extern "C" fn galumper_lent_common_ranges(
+    c: FlatHead,
+    times: &[[i64; 2]; 1024],
+    tags: &[[u32; 4]; 1024],
+    list: &mut [[i64; 2]],
+) -> Report
+    ensures { λ r. ⌜ r ≡ reportOut (rangeCount (commonRangesResult (length (now (list .entry))) (headIn true c) (now (times .entry)) (now (tags .entry)))) ⌝ }
+    ensures { λ r. ⌜ now (list .exit) ≡ rangesAfter (commonRangesResult (length (now (list .entry))) (headIn true c) (now (times .entry)) (now (tags .entry))) (now (list .entry)) ⌝ }
 {
-    let s = state_in(c, true);
-    report_out(ranges::common_ranges(s, list))
+    let h = head_in(c, true);
+    report_out(ranges::common_ranges(h, times, tags, list))
 }

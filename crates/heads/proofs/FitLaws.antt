@@ -16,7 +16,7 @@ use Rattle.buffer_state.specs.declared.Track.{Track}
 use Rattle.buffer_state.specs.Append.{raised, offerable}
 use Rattle.buffer_state.specs.Limits.{offeredTime, resultTime, knownKind}
 use Rattle.buffer_state.specs.WellFormed.{goodTrack}
-use Rattle.validation.proofs.LimitLaws.{time-mag}
+use Rattle.limits.proofs.LimitLaws.{time-mag}
 
 offered-mag : (z : ℤ) → offeredTime z ≡ true → mag z ≤ 1000000000000
 unfolding offeredTime

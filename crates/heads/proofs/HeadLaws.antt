@@ -9,24 +9,22 @@ use lib.ListN.{length, take, drop, getD, set, replicate, length-map, length-set}
 use lib.Seq.{take-append-seam, drop-append-seam, set-append-left}
 use lib.Signed.{mag}
 use Rattle.laws.proofs.BoolLaws.{by-test, and-left, and-right}
-use Rattle.buffer_state.specs.declared.Frame.{Frame}
 use Rattle.buffer_state.specs.declared.Group.{Group}
 use Rattle.buffer_state.specs.declared.Offered.{Offered}
 use Rattle.buffer_state.specs.declared.Settings.{Settings}
-use Rattle.buffer_state.specs.declared.State.{State}
 use Rattle.buffer_state.specs.declared.Track.{Track}
 use Rattle.buffer_state.specs.Append.{withOffset, stepOne, regrouped}
-use Rattle.buffer_state.specs.Buffer.{Buffer, zeroTrack, trackOf, withTrack, withNeed, withFrames, restarted, isSequence, startAtEnd, withEnd}
-use Rattle.buffer_state.specs.Layout.{padded, bufferOf, wellFormed}
+use Rattle.buffer_state.specs.Buffer.{Buffer, zeroTrack, trackOf, withTrack, withNeed, restarted, isSequence, startAtEnd, withEnd}
+use Rattle.buffer_state.specs.Layout.{padded}
 use Rattle.buffer_state.specs.Limits.{offeredTime}
-use Rattle.buffer_state.specs.WellFormed.{goodOffset, goodTrack, sorted, distinctNumbers, pairwise}
+use Rattle.buffer_state.specs.WellFormed.{goodOffset, goodGroup, goodTrack}
 use Rattle.buffer_laws.proofs.GoodLaws.{Good, good-facts, facts-good, track-good, group-start}
-use Rattle.buffer_laws.proofs.LayoutLaws.{state-back, few-tracks}
-use Rattle.buffer_laws.proofs.TestLaws.{all-none}
-use Rattle.heads.specs.declared.Head.{Head}
-use Rattle.heads.specs.Heads.{headOf, headBuffer, headIn, GoodHead}
+use Rattle.buffer_laws.proofs.LayoutLaws.{few-tracks}
+use Rattle.buffer_state.specs.declared.Head.{Head}
+use Rattle.buffer_state.specs.Lent.{headOf}
+use Rattle.heads.specs.Heads.{GoodHead}
 use Rattle.heads.proofs.FitLaws.{offset-mag}
-use Rattle.validation.proofs.LimitLaws.{time-mag}
+use Rattle.limits.proofs.LimitLaws.{time-mag}
 
 -- ---- a padded array
 
@@ -58,22 +56,22 @@ module _ (b : Buffer) (h : Head) (e : h ≡ headOf b) where
   head-track n = ap (λ (k : Head). getD (k .tracks) (n - 1) zeroTrack) e ∙ padded-at zeroTrack 4 (b .tracks) (n - 1)
 
   pub head-set : (n : ℕ) (t : Track) → 1 ≤ n → n ≤ h .ntracks
-      → _≡_ {A = Head} (record { tracks = set (h .tracks) (n - 1) t; ntracks = h .ntracks; mode = h .mode; group = h .group; last = h .last; settings = h .settings })
+      → _≡_ {A = Head} (record { tracks = set (h .tracks) (n - 1) t; ntracks = h .ntracks; nframes = h .nframes; mode = h .mode; group = h .group; last = h .last; settings = h .settings })
       (headOf (withTrack b n t))
   head-set n t from to =
       let inside : n - 1 < length (b .tracks) = omega (arith, ap (λ (k : Head). k .ntracks) e) in
       let p = ap (λ (k : Head). set (k .tracks) (n - 1) t) e ∙ padded-set zeroTrack 4 (b .tracks) (n - 1) t inside in
       let q = ap (λ (k : Head). k .ntracks) e ∙ sym (length-set (b .tracks) (n - 1) t) in
-      λ j. record { tracks = p j; ntracks = q j; mode = e j .mode; group = e j .group; last = e j .last; settings = e j .settings }
+      λ j. record { tracks = p j; ntracks = q j; nframes = e j .nframes; mode = e j .mode; group = e j .group; last = e j .last; settings = e j .settings }
 
   -- every track changed alike, another group, other settings
   mapped-head : (f : Track → Track) (ts : List Track) (g : Group) (s : Settings) → ts ≡ map f (take (h .ntracks) (h .tracks)) ++ drop (h .ntracks) (h .tracks)
-      → _≡_ {A = Head} (record { tracks = ts; ntracks = h .ntracks; mode = h .mode; group = g; last = h .last; settings = s })
+      → _≡_ {A = Head} (record { tracks = ts; ntracks = h .ntracks; nframes = h .nframes; mode = h .mode; group = g; last = h .last; settings = s })
       (headOf (record { tracks = map f (b .tracks); frames = b .frames; mode = b .mode; group = g; last = b .last; settings = s }))
   mapped-head f ts g s d =
       let p = d ∙ ap (λ (k : Head). map f (take (k .ntracks) (k .tracks)) ++ drop (k .ntracks) (k .tracks)) e ∙ padded-map zeroTrack 4 (b .tracks) f in
       let q = ap (λ (k : Head). k .ntracks) e ∙ sym (length-map (b .tracks) f) in
-      λ j. record { tracks = p j; ntracks = q j; mode = e j .mode; group = g; last = e j .last; settings = s }
+      λ j. record { tracks = p j; ntracks = q j; nframes = e j .nframes; mode = e j .mode; group = g; last = e j .last; settings = s }
 
   -- ---- steps 1 and 3
 
@@ -86,7 +84,7 @@ module _ (b : Buffer) (h : Head) (e : h ≡ headOf b) where
   pub one-begins : (f : Offered) → (isSequence (h .mode) && h .group .begun) ≡ true → (ts : List Track) (s : Settings)
       → ts ≡ map (withNeed true) (take (h .ntracks) (h .tracks)) ++ drop (h .ntracks) (h .tracks)
       → s ≡ withOffset (h .settings) (h .group .start -ℤ f .pts)
-      → _≡_ {A = Head} (record { tracks = ts; ntracks = h .ntracks; mode = h .mode; group = record { begun = false; start = pos 0; end = h .group .start }; last = h .last; settings = s })
+      → _≡_ {A = Head} (record { tracks = ts; ntracks = h .ntracks; nframes = h .nframes; mode = h .mode; group = record { begun = false; start = pos 0; end = h .group .start }; last = h .last; settings = s })
       (headOf (stepOne b f))
   unfolding stepOne
   one-begins f t ts s d q =
@@ -104,7 +102,7 @@ module _ (b : Buffer) (h : Head) (e : h ≡ headOf b) where
 
   pub head-regrouped : (z : ℤ) (ts : List Track) (g : Group) → ts ≡ map restarted (take (h .ntracks) (h .tracks)) ++ drop (h .ntracks) (h .tracks)
       → g ≡ cond (isSequence (h .mode)) (startAtEnd (h .group)) (withEnd (h .group) z)
-      → _≡_ {A = Head} (record { tracks = ts; ntracks = h .ntracks; mode = h .mode; group = g; last = h .last; settings = h .settings }) (headOf (regrouped b z))
+      → _≡_ {A = Head} (record { tracks = ts; ntracks = h .ntracks; nframes = h .nframes; mode = h .mode; group = g; last = h .last; settings = h .settings }) (headOf (regrouped b z))
   unfolding regrouped
   head-regrouped z ts g d q =
       let g′ = q ∙ ap (λ (k : Head). cond (isSequence (k .mode)) (startAtEnd (k .group)) (withEnd (k .group) z)) e in
@@ -113,40 +111,21 @@ module _ (b : Buffer) (h : Head) (e : h ≡ headOf b) where
 
 -- ---- the head of a good buffer
 
-pub head-back : (c : Buffer) (fs : List Frame) → headBuffer (headOf c) fs ≡ withFrames c fs
-head-back c fs =
-    let ts = take-append-seam (c .tracks) (replicate (4 - length (c .tracks)) zeroTrack) in
-    λ j. record { tracks = ts j; frames = fs; mode = c .mode; group = c .group; last = c .last; settings = c .settings }
-
-bare-good : (c : Buffer) → Good c → Good (withFrames c [])
-unfolding sorted distinctNumbers pairwise
-bare-good c g = record {
-  tracks = g .tracks;
-  frames = record { few = omega arith; each = all-none _; order = refl; distinct = refl };
-  last = g .last;
-  group = g .group;
-  settings = g .settings;
-}
-
 pub good-head : (c : Buffer) → Good c → GoodHead (headOf c)
-good-head c g = record {
-  laid = ap headOf (sym (head-back c []));
-  good = rw (head-back c []) (facts-good (withFrames c []) (bare-good c g));
-}
-
--- a well-formed state's head
-pub state-head : (s : State) → wellFormed s ≡ true → headIn s ≡ headOf (bufferOf s)
-state-head s w = ap headIn (sym (state-back s w))
+good-head c g = record { held = c; laid = refl; good = facts-good c g }
 
 module _ (h : Head) (g : GoodHead h) where
-  pub head-good : Good (headBuffer h [])
-  head-good = good-facts (headBuffer h []) (g .good)
+  pub head-good : Good (g .held)
+  head-good = good-facts (g .held) (g .good)
 
   pub head-few : h .ntracks ≤ 4
-  head-few = omega (arith, few-tracks (headBuffer h []) (g .good), ap (λ (k : Head). k .ntracks) (g .laid))
+  head-few = omega (arith, few-tracks (g .held) (g .good), ap (λ (k : Head). k .ntracks) (g .laid))
 
-  pub head-track-good : (n : ℕ) → goodTrack (trackOf (headBuffer h []) n) ≡ true
-  head-track-good n = track-good (headBuffer h [] .tracks) (head-good .tracks) (n - 1)
+  pub head-group : goodGroup (h .group) ≡ true
+  head-group = ap (λ (k : Head). goodGroup (k .group)) (g .laid) ∙ head-good .group
+
+  pub head-track-good : (n : ℕ) → goodTrack (trackOf (g .held) n) ≡ true
+  head-track-good n = track-good (g .held .tracks) (head-good .tracks) (n - 1)
 
 -- step 1 leaves an offset to which a time can be added
 pub one-offset : (b : Buffer) (f : Offered) → Good b → offeredTime (f .pts) ≡ true → mag (stepOne b f .settings .offset .micros) ≤ 6000000000000

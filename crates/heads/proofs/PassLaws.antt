@@ -1,7 +1,6 @@
 -- Both passes: which one decides, and that it is good where refusal 7 does not take it.
 use mathlib.Core.Path.{_≡_, refl, sym, ap, _∙_}
 use mathlib.Core.Bool.{Bool, true, false, cond, not, _&&_, _||_, and-assoc}
-use mathlib.Core.List.{[]}
 use lib.ListN.{length}
 use Rattle.laws.proofs.BoolLaws.{clash, split}
 use Rattle.buffer_state.specs.declared.Offered.{Offered}
@@ -10,8 +9,9 @@ use Rattle.buffer_state.specs.Buffer.{Buffer}
 use Rattle.buffer_state.specs.Limits.{resultTime}
 use Rattle.buffer_laws.proofs.AppendLaws.{fits-facts, pass-good, first-from, regrouped-good}
 use Rattle.buffer_laws.proofs.GoodLaws.{Good}
-use Rattle.heads.specs.declared.Head.{Head}
-use Rattle.heads.specs.Heads.{headOf, headBuffer, GoodHead, HasTrack, deciding}
+use Rattle.buffer_state.specs.declared.Head.{Head}
+use Rattle.buffer_state.specs.Lent.{headOf}
+use Rattle.heads.specs.Heads.{GoodHead, HasTrack, deciding}
 use Rattle.heads.proofs.HeadLaws.{good-head, head-good}
 
 -- ---- refusal 7, in the order in which the code asks
@@ -65,21 +65,21 @@ module _ (b : Buffer) (f : Offered) where
 
 module _ (h : Head) (f : Offered) (g : GoodHead h) where
   -- the frame's track is still one of the head's
-  pub first-track : HasTrack h (f .track) → HasTrack (headOf (passOf (headBuffer h []) f .buffer)) (passOf (headBuffer h []) f .frame .track)
+  pub first-track : HasTrack h (f .track) → HasTrack (headOf (passOf (g .held) f .buffer)) (passOf (g .held) f .frame .track)
   first-track t =
-      let from = first-from (headBuffer h []) f in
-      let track : passOf (headBuffer h []) f .frame .track ≡ f .track = from .frame .track in
-      let width : length (passOf (headBuffer h []) f .buffer .tracks) ≡ h .ntracks = from .buffer .width ∙ ap (λ (k : Head). k .ntracks) (sym (g .laid)) in
+      let from = first-from (g .held) f in
+      let track : passOf (g .held) f .frame .track ≡ f .track = from .frame .track in
+      let width : length (passOf (g .held) f .buffer .tracks) ≡ h .ntracks = from .buffer .width ∙ ap (λ (k : Head). k .ntracks) (sym (g .laid)) in
       rw (track, width) t
 
-  module _ (e : fits (passOf (headBuffer h []) f) ≡ true) where
-    first-good : Good (passOf (headBuffer h []) f .buffer)
-    first-good = pass-good (headBuffer h []) f (head-good h g) e
+  module _ (e : fits (passOf (g .held) f) ≡ true) where
+    first-good : Good (passOf (g .held) f .buffer)
+    first-good = pass-good (g .held) f (head-good h g) e
 
-    pub first-head : GoodHead (headOf (passOf (headBuffer h []) f .buffer))
+    pub first-head : GoodHead (headOf (passOf (g .held) f .buffer))
     first-head = good-head _ first-good
 
-    pub again-head : GoodHead (headOf (regrouped (passOf (headBuffer h []) f .buffer) (passOf (headBuffer h []) f .frame .pts)))
+    pub again-head : GoodHead (headOf (regrouped (passOf (g .held) f .buffer) (passOf (g .held) f .frame .pts)))
     again-head =
-        let p = passOf (headBuffer h []) f in
+        let p = passOf (g .held) f in
         good-head _ (regrouped-good (p .buffer) (p .frame .pts) first-good (fits-facts p e .pts))

@@ -1,72 +1,46 @@
--- The head of a buffer, which is all of it but its frames: what steps 1 to 6 of an append read and change.
+-- What an append reads of a head and changes there: steps 1 to 6, and step 9.
 use mathlib.Core.Path.{_≡_}
 use mathlib.Core.Bool.{true, cond}
-use mathlib.Core.List.{List, []}
 use Prim.Native.Nat.{ℕ, _+_, _≤_}
 use lib.Dec.{eqb}
-use lib.ListN.{length, take}
-use Rattle.buffer_state.specs.declared.Frame.{Frame}
 use Rattle.buffer_state.specs.declared.Group.{Group}
+use Rattle.buffer_state.specs.declared.Head.{Head}
 use Rattle.buffer_state.specs.declared.Offered.{Offered}
-use Rattle.buffer_state.specs.declared.State.{State}
 use Rattle.buffer_state.specs.Append.{Pass, passOf, fits, lastPass, beforeWindow, pastWindow, lacksRandomAccess}
-use Rattle.buffer_state.specs.Buffer.{Buffer, zeroTrack, trackOf, withTrack, withNeed}
-use Rattle.buffer_state.specs.Layout.{padded}
-use Rattle.buffer_state.specs.Limits.{mostTracks}
+use Rattle.buffer_state.specs.Buffer.{Buffer, trackOf, withTrack, withNeed}
+use Rattle.buffer_state.specs.Lent.{headOf}
 use Rattle.buffer_state.specs.WellFormed.{goodBuffer}
-use Rattle.heads.specs.declared.Head.{Head}
 use Rattle.heads.specs.declared.Passed.{Passed}
 
--- a buffer's head, laid out as a state lays it out
-abbrev pub headOf : Buffer → Head
-headOf b = record {
-  tracks = padded mostTracks zeroTrack (b .tracks);
-  ntracks = length (b .tracks);
-  mode = b .mode;
-  group = b .group;
-  last = b .last;
-  settings = b .settings;
-}
-
--- the buffer with this head and these frames
-abbrev pub headBuffer : Head → List Frame → Buffer
-headBuffer h fs = record {
-  tracks = take (h .ntracks) (h .tracks);
-  frames = fs;
-  mode = h .mode;
-  group = h .group;
-  last = h .last;
-  settings = h .settings;
-}
-
--- a state's own head
-abbrev pub headIn : State → Head
-headIn s = record { tracks = s .tracks; ntracks = s .ntracks; mode = s .mode; group = s .group; last = s .last; settings = s .settings }
-
--- a state with another head
-abbrev pub underHead : State → Head → State
-underHead s h = record {
-  frames = s .frames;
-  nframes = s .nframes;
+-- a head with the next number given
+abbrev pub nextHead : Head → Head
+nextHead h = record {
   tracks = h .tracks;
   ntracks = h .ntracks;
+  nframes = h .nframes;
   mode = h .mode;
   group = h .group;
-  last = h .last;
+  last = h .last + 1;
   settings = h .settings;
 }
 
--- a head with the next number given, and with another group
-abbrev pub nextHead : Head → Head
-nextHead h = record { tracks = h .tracks; ntracks = h .ntracks; mode = h .mode; group = h .group; last = h .last + 1; settings = h .settings }
-
-abbrev pub groupHead : Head → Group → Head
-groupHead h g = record { tracks = h .tracks; ntracks = h .ntracks; mode = h .mode; group = g; last = h .last; settings = h .settings }
+-- a head with another count of frames and another group
+abbrev pub grownHead : Head → ℕ → Group → Head
+grownHead h nframes g = record {
+  tracks = h .tracks;
+  ntracks = h .ntracks;
+  nframes = nframes;
+  mode = h .mode;
+  group = g;
+  last = h .last;
+  settings = h .settings;
+}
 
 -- the head of a good buffer
 pub record GoodHead (h : Head) : Type 0 where
-  pub laid : h ≡ headOf (headBuffer h [])
-  pub good : goodBuffer (headBuffer h []) ≡ true
+  pub held : Buffer
+  pub laid : h ≡ headOf held
+  pub good : goodBuffer held ≡ true
 
 -- the track number is one of the head's
 abbrev pub HasTrack : Head → ℕ → Type 0

@@ -1,36 +1,28 @@
-// The head of a state, which is all of it but its frames, under an append: steps 1 to 6, and what step 9 does beside storing the frame.
+// A state's head under an append: steps 1 to 6, and what step 9 does beside storing the frame.
 // A promise on a head is made of every buffer b that has it: h ≡ headOf b.
 ghost use mathlib.Core.Path.{_≡_};
 ghost use mathlib.Core.Bool.{true, _&&_, _||_, cond};
 ghost use mathlib.Core.List.{List};
-ghost use Prim.Native.Nat.{_+_, _*_, _^_, _≤_, _<_};
+ghost use Prim.Native.Nat.{_*_, _^_, _≤_, _<_};
 ghost use lib.IntN.{pos, _+ℤ_, _-ℤ_, natAbs};
+ghost use lib.ListN.{length};
 ghost use lib.Signed.{ltZ, mag};
 ghost use Rattle.buffer_state.specs.declared.Frame.{Frame};
 ghost use Rattle.buffer_state.specs.Append.{withOffset, stepOne, stepTwo, endOffered, fits, passOf, regrouped, breaks, above, dropped, raised, storedAs, followed, stepNine, offerable};
 ghost use Rattle.buffer_state.specs.Buffer.{Buffer, isSequence, trackOf, withTrack, withNeed, withEnd};
-ghost use Rattle.buffer_state.specs.Limits.{offeredTime, resultTime, lastNumber};
+ghost use Rattle.buffer_state.specs.Lent.{headOf};
+ghost use Rattle.buffer_state.specs.Limits.{offeredTime, resultTime, lastNumber, places};
 ghost use Rattle.buffer_state.specs.WellFormed.{goodTrack};
-ghost use Rattle.heads.specs.Heads.{headOf, headIn, underHead, GoodHead, HasTrack, passedAs, deciding, dropCause, dropBuffer, nextHead, groupHead};
+ghost use Rattle.heads.specs.Heads.{GoodHead, HasTrack, passedAs, deciding, dropCause, dropBuffer, nextHead, grownHead};
 use buffer_state::Frame;
 use buffer_state::Group;
+use buffer_state::Head;
 use buffer_state::Mode;
 use buffer_state::Offered;
 use buffer_state::Setting;
 use buffer_state::Settings;
-use buffer_state::State;
 use buffer_state::Track;
 use buffer_state::WindowEnd;
-
-// All of a state but its frames.
-pub struct Head {
-    pub tracks: [Track; 4],
-    pub ntracks: usize,
-    pub mode: Mode,
-    pub group: Group,
-    pub last: u32,
-    pub settings: Settings,
-}
 
 // A pass: the head after step 1, the frame after step 2, and whether they are inside the result limits.
 pub struct Passed {
@@ -39,47 +31,10 @@ pub struct Passed {
     pub fits: bool,
 }
 
-// The head of the state.
-pub fn head_of(s: State) -> Head
-    ensures { λ r. ⌜ r ≡ headIn s ⌝ }
-{
-    let tracks = s.tracks;
-    let mode = s.mode;
-    let group = s.group;
-    let settings = s.settings;
-    Head {
-        tracks: tracks,
-        ntracks: s.ntracks,
-        mode: mode,
-        group: group,
-        last: s.last,
-        settings: settings,
-    }
-}
-
-// The state's frames under another head.
-pub fn with_head(s: State, h: Head) -> State
-    ensures { λ r. ⌜ r ≡ underHead s h ⌝ }
-{
-    let tracks = h.tracks;
-    let mode = h.mode;
-    let group = h.group;
-    let settings = h.settings;
-    State {
-        tracks: tracks,
-        ntracks: h.ntracks,
-        mode: mode,
-        group: group,
-        last: h.last,
-        settings: settings,
-        ..s
-    }
-}
-
 // ---- one track
 
 // Tracks are numbered from 1.
-pub fn track_of(h: Head, n: u8) -> Track
+pub fn track_of(h: Head, n: u32) -> Track
     requires { ⌜ HasTrack h n ⌝ }
     ensures { λ r. ⌜ ((b : Buffer) → h ≡ headOf b → r ≡ trackOf b n) ⌝ }
 {
@@ -88,7 +43,7 @@ pub fn track_of(h: Head, n: u8) -> Track
     t
 }
 
-fn with_track(h: Head, n: u8, t: Track) -> Head
+fn with_track(h: Head, n: u32, t: Track) -> Head
     requires { ⌜ HasTrack h n ⌝ }
     ensures { λ r. ⌜ ((b : Buffer) → h ≡ headOf b → r ≡ headOf (withTrack b n t)) ⌝ }
 {
@@ -99,7 +54,7 @@ fn with_track(h: Head, n: u8, t: Track) -> Head
 }
 
 // Need-random-access on or off for one track.
-pub fn need_track(h: Head, n: u8, on: bool) -> Head
+pub fn need_track(h: Head, n: u32, on: bool) -> Head
     requires { ⌜ HasTrack h n ⌝ }
     ensures { λ r. ⌜ ((b : Buffer) → h ≡ headOf b → r ≡ headOf (withTrack b n (withNeed on (trackOf b n)))) ⌝ }
 {
@@ -169,6 +124,7 @@ fn step_one(h: Head, f: Offered) -> Head
     Head {
         tracks: tracks,
         ntracks: n,
+        nframes: h.nframes,
         mode: mode,
         group: group,
         last: h.last,
@@ -225,20 +181,20 @@ pub fn end_offered(f: Offered) -> i64
     requires { ⌜ resultTime (f .pts) ≡ true ⌝ }
     ensures { λ r. ⌜ r ≡ endOffered f ⌝ }
 {
-    validation::end_of(stored_as(0, f))
+    limits::end_of(stored_as(0, f))
 }
 
 // Offset, P, D and frame end inside the result limits. P is asked first, so that the end can be added up.
 fn fits(h: Head, g: Offered) -> bool
     ensures { λ r. ⌜ ((b : Buffer) → h ≡ headOf b → r ≡ fits (record { buffer = b; frame = g })) ⌝ }
 {
-    if !validation::result_time(g.pts) {
+    if !limits::result_time(g.pts) {
         return false;
     }
     let s = h.settings;
     let o = s.offset;
-    let times = validation::result_time(o.micros) & validation::result_time(g.dts);
-    times & validation::result_time(end_offered(g))
+    let times = limits::result_time(o.micros) & limits::result_time(g.dts);
+    times & limits::result_time(end_offered(g))
 }
 
 // Steps 1 and 2, and refusal 7's answer.
@@ -275,7 +231,7 @@ fn is_break(t: Track, dts: i64) -> bool
     if !t.known {
         return false;
     }
-    validation::below(dts, t.dts) | validation::below(latest(t), dts)
+    limits::below(dts, t.dts) | limits::below(latest(t), dts)
 }
 
 fn breaks(h: Head, g: Offered) -> bool
@@ -300,6 +256,7 @@ fn regrouped(h: Head, p: i64) -> Head
     Head {
         tracks: tracks,
         ntracks: n,
+        nframes: h.nframes,
         mode: mode,
         group: group,
         last: h.last,
@@ -334,19 +291,19 @@ fn past_window(end: WindowEnd, limit: i64, e: i64) -> bool
 {
     match end {
         WindowEnd::Unbounded => false,
-        WindowEnd::At(x) => validation::below(limit, e),
+        WindowEnd::At(x) => limits::below(limit, e),
     }
 }
 
 // The cause by which the frame is dropped, 0 where it is stored.
-pub fn drop_cause(h: Head, g: Offered) -> u8
+pub fn drop_cause(h: Head, g: Offered) -> u32
     requires { ⌜ HasTrack h (g .track) × (resultTime (g .pts) ≡ true) ⌝ }
     ensures { λ r. ⌜ ((b : Buffer) → h ≡ headOf b → r ≡ dropCause (record { buffer = b; frame = g })) ⌝ }
 {
     let s = h.settings;
     let start = s.start;
     let end = s.end;
-    if validation::below(g.pts, start.micros) {
+    if limits::below(g.pts, start.micros) {
         return 1;
     }
     if past_window(end, s.limit, end_offered(g)) {
@@ -371,7 +328,7 @@ fn numbered(h: Head) -> Head
 }
 
 // Causes 1 and 2 turn need-random-access on for the frame's track.
-pub fn dropped_head(h: Head, n: u8, cause: u8) -> Head
+pub fn dropped_head(h: Head, n: u32, cause: u32) -> Head
     requires { ⌜ HasTrack h n × (h .last < lastNumber) ⌝ }
     ensures { λ r. ⌜ ((b : Buffer) → h ≡ headOf b → r ≡ headOf (dropped (dropBuffer b n cause) cause .after)) ⌝ }
 {
@@ -387,7 +344,7 @@ pub fn dropped_head(h: Head, n: u8, cause: u8) -> Head
 fn raised(a: i64, b: i64) -> i64
     ensures { λ r. ⌜ r ≡ raised a b ⌝ }
 {
-    if validation::below(a, b) {
+    if limits::below(a, b) {
         return b;
     }
     a
@@ -432,21 +389,28 @@ fn group_raised(g: Group, e: i64) -> Group
     }
 }
 
-fn with_group(h: Head, g: Group) -> Head
-    ensures { λ r. ⌜ r ≡ groupHead h g ⌝ }
+// So many frames stored, and another group.
+fn grown(h: Head, nframes: usize, g: Group) -> Head
+    ensures { λ r. ⌜ r ≡ grownHead h nframes g ⌝ }
 {
-    Head { group: g, ..h }
+    Head {
+        nframes: nframes,
+        group: g,
+        ..h
+    }
 }
 
-pub fn step_nine(h: Head, f: Offered) -> Head
-    requires { ⌜ HasTrack h (f .track) × (resultTime (f .pts) ≡ true) × (h .last < lastNumber) ⌝ }
-    ensures { λ r. ⌜ ((b : Buffer) (left : List Frame) → h ≡ headOf b → r ≡ headOf (stepNine (record { buffer = b; frame = f }) left)) ⌝ }
+// The frame is stored beside those left.
+pub fn step_nine(h: Head, f: Offered, left: usize) -> Head
+    requires { ⌜ HasTrack h (f .track) × (resultTime (f .pts) ≡ true) × (h .last < lastNumber) × (left < places) ⌝ }
+    ensures { λ r. ⌜ ((b : Buffer) (l : List Frame) → h ≡ headOf b → left ≡ length l → r ≡ headOf (stepNine (record { buffer = b; frame = f }) l)) ⌝ }
 {
     let n = f.track;
     let t = followed(track_of(h, n), f);
     let k = numbered(h);
     let g = k.group;
     let group = group_raised(g, end_offered(f));
-    let m = with_group(k, group);
+    let count = left + 1;
+    let m = grown(k, count, group);
     with_track(m, n, t)
 }

@@ -15,25 +15,26 @@ use Rattle.laws.proofs.BoolLaws.{split, both-ways, and-left, and-right, or-none
 use Rattle.laws.proofs.IntLaws.{weaken, le-lt, lt-lt}
 use Rattle.buffer_state.specs.declared.Count.{Count}
 use Rattle.buffer_state.specs.declared.Count.the-variants as Count
+use Rattle.buffer_state.specs.declared.Head.{Head}
 use Rattle.buffer_state.specs.declared.Refusal.{Refusal}
 use Rattle.buffer_state.specs.declared.Refusal.the-variants.{NoTrack, ShortRanges}
-use Rattle.buffer_state.specs.declared.State.{State}
 use Rattle.buffer_state.specs.Answers.{rangeCount, rangesAfter, laid, trackRangesResult, commonRangesResult}
 use Rattle.buffer_state.specs.Buffer.{Buffer, hasTrack}
-use Rattle.buffer_state.specs.Layout.{bufferOf, wellFormed}
+use Rattle.buffer_state.specs.Layout.{bufferOf}
+use Rattle.buffer_state.specs.Lent.{stateAt, wellFormedAt}
 use Rattle.buffer_state.specs.Ranges.{Range, liesIn, inRanges, rising, coveredOn, coveredOnAll, rangesOf, commonRangesOf, trackRanges, commonRanges}
 use Rattle.buffer_state.specs.Refusals.{Result, done, refuseIf}
 use Rattle.buffer_state.specs.WellFormed.{allOf, goodCount, goodTracks, goodBuffer}
 use Rattle.buffer_laws.proofs.GoodLaws.{good-facts}
-use Rattle.buffer_laws.proofs.LayoutLaws.{well-formed-good, on-well-formed}
+use Rattle.buffer_laws.proofs.LentLaws.{lent-good, on-well-formed}
 use Rattle.buffer_laws.proofs.RangeLaws.{ranges-cover}
 use Rattle.buffer_laws.proofs.ReportLaws.{report-rises, common-report-rises}
 use Rattle.buffer_laws.proofs.CommonLaws.{common-cover}
 use Rattle.buffer_laws.proofs.RisingLaws.{lies-from, lies-to, lies-between}
 use Rattle.buffer_laws.proofs.TestLaws.{all-none, all-more}
-use Rattle.store.specs.Marks.{stored}
 use Rattle.ranges.specs.Bars.{Reported}
 use Rattle.ranges.specs.Read.{rangesIn}
+use Rattle.ranges.proofs.BarLaws.{laid-read}
 use Rattle.ranges.proofs.CallLaws.{track-ill-formed, common-ill-formed}
 
 -- the first range, or the later ones
@@ -47,10 +48,6 @@ some-track b h = leb-true 1 (length (b .tracks)) (and-left (leb 1 (length (b .tr
 
 -- ---- a report that is not refused, read back
 
-laid-read : (rs : List Range) → rangesIn (laid rs) ≡ rs
-laid-read [] = refl
-laid-read (r ∷ rs) = ap (λ (l : List Range). r ∷ l) (laid-read rs)
-
 refusal-no-count : {why : Refusal} {n : ℕ} → Count.Refused why ≡ Count.Done n → ⊥
 refusal-no-count e = let z : _≡_ {A = ℕ} 0 1 = cc in omega arith
 
@@ -63,87 +60,92 @@ read-back result rs r n after before told counted e =
     let front : take n after ≡ laid rs = rw (list, size) (take-at (laid rs) (drop (length rs) before) (length rs) (length-map rs _)) in
     ap rangesIn front ∙ laid-read rs
 
-module _ (lent track : ℕ) (s : State) (r : Count) (n : ℕ) (after before : List (List ℤ))
-    (told : Reported r after (trackRangesResult lent track s) before) (counted : r ≡ Count.Done n) where
-  done-track : (a b : Bool) (rs : List Range) → rangeCount (refuseIf (not a) NoTrack (refuseIf b ShortRanges (done rs))) ≡ Count.Done n
-      → refuseIf (not a) NoTrack (refuseIf b ShortRanges (done rs)) ≡ done rs
-  done-track false b rs e = absurd (refusal-no-count e)
-  done-track true true rs e = absurd (refusal-no-count e)
-  done-track true false rs e = refl
+-- a head and two arrays, and the buffer that they hold
+module _ (h : Head) (ts : List (List ℤ)) (gs : List (List ℕ)) where
+  abbrev buffer : Buffer
+  buffer = bufferOf (stateAt h ts gs)
 
-  answered : rangeCount (trackRangesResult lent track s) ≡ Count.Done n
-  answered = sym (told .answer) ∙ counted
+  module _ (lent track : ℕ) (r : Count) (n : ℕ) (after before : List (List ℤ))
+      (told : Reported r after (trackRangesResult lent track h ts gs) before) (counted : r ≡ Count.Done n) where
+    done-track : (a b : Bool) (rs : List Range) → rangeCount (refuseIf (not a) NoTrack (refuseIf b ShortRanges (done rs))) ≡ Count.Done n
+        → refuseIf (not a) NoTrack (refuseIf b ShortRanges (done rs)) ≡ done rs
+    done-track false b rs e = absurd (refusal-no-count e)
+    done-track true true rs e = absurd (refusal-no-count e)
+    done-track true false rs e = refl
 
-  well : wellFormed s ≡ true
-  well =
-      split (wellFormed s) (λ h. h)
-      (λ h. absurd (refusal-no-count (sym (ap rangeCount (track-ill-formed lent track s h)) ∙ answered)))
+    answered : rangeCount (trackRangesResult lent track h ts gs) ≡ Count.Done n
+    answered = sym (told .answer) ∙ counted
 
-  track-done : trackRangesResult lent track s ≡ done (rangesOf track (stored s))
-  unfolding trackRangesResult trackRanges
-  track-done =
-      let same = on-well-formed (trackRanges lent track) s well in
-      same ∙ done-track (hasTrack (bufferOf s) track) (ltb lent (length (rangesOf track (stored s)))) (rangesOf track (stored s)) (sym (ap rangeCount same) ∙ answered)
+    well : wellFormedAt h ts gs ≡ true
+    well =
+        split (wellFormedAt h ts gs) (λ e. e)
+        (λ e. absurd (refusal-no-count (sym (ap rangeCount (track-ill-formed lent track h ts gs e)) ∙ answered)))
 
-  -- the ranges that the reader finds in the list, up to the count
-  reported : rangesIn (take n after) ≡ rangesOf track (stored s)
-  reported = read-back (trackRangesResult lent track s) (rangesOf track (stored s)) r n after before told counted track-done
+    track-done : trackRangesResult lent track h ts gs ≡ done (rangesOf track (buffer .frames))
+    unfolding trackRangesResult trackRanges
+    track-done =
+        let same = on-well-formed (trackRanges lent track) h ts gs well in
+        same ∙ done-track (hasTrack buffer track) (ltb lent (length (rangesOf track (buffer .frames)))) (rangesOf track (buffer .frames)) (sym (ap rangeCount same) ∙ answered)
 
-  -- An instant is reported as held on a track exactly when a stored frame's interval covers it.
-  pub held-exactly : (t : ℤ) → inRanges t (rangesIn (take n after)) ≡ coveredOn track t (stored s)
-  held-exactly t = ap (inRanges t) reported ∙ ranges-cover track t (stored s)
+    -- the ranges that the reader finds in the list, up to the count
+    reported : rangesIn (take n after) ≡ rangesOf track (buffer .frames)
+    reported = read-back (trackRangesResult lent track h ts gs) (rangesOf track (buffer .frames)) r n after before told counted track-done
 
-  -- Two neighbouring ranges never touch: each ends strictly before the next starts.
-  pub never-touch : rising (rangesIn (take n after)) ≡ true
-  never-touch = ap rising reported ∙ report-rises (bufferOf s) (good-facts (bufferOf s) (well-formed-good s well)) track
+    -- An instant is reported as held on a track exactly when a stored frame's interval covers it.
+    pub held-exactly : (t : ℤ) → inRanges t (rangesIn (take n after)) ≡ coveredOn track t (buffer .frames)
+    held-exactly t = ap (inRanges t) reported ∙ ranges-cover track t (buffer .frames)
 
-  -- An instant that no frame covers, be it a gap of one microsecond, parts the ranges: none holds an instant on both sides of it.
-  pub gap-parts : (a t b : ℤ) → a <ℤ t → t <ℤ b → coveredOn track t (stored s) ≡ false → allOf (λ (q : Range). not (liesIn a q && liesIn b q)) (rangesIn (take n after)) ≡ true
-  gap-parts a t b h k e = go (rangesIn (take n after)) (held-exactly t ∙ e)
-    where
-      apart : (q : Range) → liesIn t q ≡ false → not (liesIn a q && liesIn b q) ≡ true
-      apart q out =
-          split (liesIn a q && liesIn b q)
-          (λ e. both-ways (lies-between t q (weaken (le-lt (lies-from a q (and-left _ _ e)) h)) (lt-lt k (lies-to b q (and-right (liesIn a q) _ e)))) out)
-          (λ e. rw e)
+    -- Two neighbouring ranges never touch: each ends strictly before the next starts.
+    pub never-touch : rising (rangesIn (take n after)) ≡ true
+    never-touch = ap rising reported ∙ report-rises buffer (good-facts buffer (lent-good h ts gs well)) track
 
-      go : (qs : List Range) → inRanges t qs ≡ false → allOf (λ (q : Range). not (liesIn a q && liesIn b q)) qs ≡ true
-      go [] e = all-none _
-      go (q ∷ qs) e = all-more _ q qs (apart q (or-none-left (liesIn t q) (inRanges t qs) (first t q qs e))) (go qs (or-none-right (liesIn t q) (inRanges t qs) (first t q qs e)))
+    -- An instant that no frame covers, be it a gap of one microsecond, parts the ranges: none holds an instant on both sides of it.
+    pub gap-parts : (a t b : ℤ) → a <ℤ t → t <ℤ b → coveredOn track t (buffer .frames) ≡ false → allOf (λ (q : Range). not (liesIn a q && liesIn b q)) (rangesIn (take n after)) ≡ true
+    gap-parts a t b l k e = go (rangesIn (take n after)) (held-exactly t ∙ e)
+      where
+        apart : (q : Range) → liesIn t q ≡ false → not (liesIn a q && liesIn b q) ≡ true
+        apart q out =
+            split (liesIn a q && liesIn b q)
+            (λ e. both-ways (lies-between t q (weaken (le-lt (lies-from a q (and-left _ _ e)) l)) (lt-lt k (lies-to b q (and-right (liesIn a q) _ e)))) out)
+            (λ e. rw e)
 
--- The common report: an instant is reported exactly when every track covers it, and neighbouring ranges never touch.
-module _ (lent : ℕ) (s : State) (r : Count) (n : ℕ) (after before : List (List ℤ))
-    (told : Reported r after (commonRangesResult lent s) before) (counted : r ≡ Count.Done n) where
-  done-common : (b : Bool) (rs : List Range) → rangeCount (refuseIf b ShortRanges (done rs)) ≡ Count.Done n → refuseIf b ShortRanges (done rs) ≡ done rs
-  done-common true rs e = absurd (refusal-no-count e)
-  done-common false rs e = refl
+        go : (qs : List Range) → inRanges t qs ≡ false → allOf (λ (q : Range). not (liesIn a q && liesIn b q)) qs ≡ true
+        go [] e = all-none _
+        go (q ∷ qs) e = all-more _ q qs (apart q (or-none-left (liesIn t q) (inRanges t qs) (first t q qs e))) (go qs (or-none-right (liesIn t q) (inRanges t qs) (first t q qs e)))
 
-  common-answered : rangeCount (commonRangesResult lent s) ≡ Count.Done n
-  common-answered = sym (told .answer) ∙ counted
+  -- The common report: an instant is reported exactly when every track covers it, and neighbouring ranges never touch.
+  module _ (lent : ℕ) (r : Count) (n : ℕ) (after before : List (List ℤ))
+      (told : Reported r after (commonRangesResult lent h ts gs) before) (counted : r ≡ Count.Done n) where
+    done-common : (b : Bool) (rs : List Range) → rangeCount (refuseIf b ShortRanges (done rs)) ≡ Count.Done n → refuseIf b ShortRanges (done rs) ≡ done rs
+    done-common true rs e = absurd (refusal-no-count e)
+    done-common false rs e = refl
 
-  common-well : wellFormed s ≡ true
-  common-well =
-      split (wellFormed s) (λ h. h)
-      (λ h. absurd (refusal-no-count (sym (ap rangeCount (common-ill-formed lent s h)) ∙ common-answered)))
+    common-answered : rangeCount (commonRangesResult lent h ts gs) ≡ Count.Done n
+    common-answered = sym (told .answer) ∙ counted
 
-  common-done : commonRangesResult lent s ≡ done (commonRangesOf (length (bufferOf s .tracks)) (stored s))
-  unfolding commonRangesResult commonRanges
-  common-done =
-      let same = on-well-formed (commonRanges lent) s common-well in
-      same ∙ done-common (ltb lent (length (commonRangesOf (length (bufferOf s .tracks)) (stored s)))) _ (sym (ap rangeCount same) ∙ common-answered)
+    common-well : wellFormedAt h ts gs ≡ true
+    common-well =
+        split (wellFormedAt h ts gs) (λ e. e)
+        (λ e. absurd (refusal-no-count (sym (ap rangeCount (common-ill-formed lent h ts gs e)) ∙ common-answered)))
 
-  common-read : rangesIn (take n after) ≡ commonRangesOf (length (bufferOf s .tracks)) (stored s)
-  common-read = read-back (commonRangesResult lent s) _ r n after before told counted common-done
+    common-done : commonRangesResult lent h ts gs ≡ done (commonRangesOf (length (buffer .tracks)) (buffer .frames))
+    unfolding commonRangesResult commonRanges
+    common-done =
+        let same = on-well-formed (commonRanges lent) h ts gs common-well in
+        same ∙ done-common (ltb lent (length (commonRangesOf (length (buffer .tracks)) (buffer .frames)))) _ (sym (ap rangeCount same) ∙ common-answered)
 
-  pub common-held-exactly : (t : ℤ) → inRanges t (rangesIn (take n after)) ≡ coveredOnAll (length (bufferOf s .tracks)) t (stored s)
-  common-held-exactly t = ap (inRanges t) common-read ∙ on-every (length (bufferOf s .tracks)) some
-    where
-      some : 1 ≤ length (bufferOf s .tracks)
-      some = some-track (bufferOf s) (well-formed-good s common-well)
+    common-read : rangesIn (take n after) ≡ commonRangesOf (length (buffer .tracks)) (buffer .frames)
+    common-read = read-back (commonRangesResult lent h ts gs) _ r n after before told counted common-done
 
-      on-every : (m : ℕ) → 1 ≤ m → inRanges t (commonRangesOf m (stored s)) ≡ coveredOnAll m t (stored s)
-      on-every zero h = absurd (omega arith)
-      on-every (suc m) h = common-cover m t (stored s)
+    pub common-held-exactly : (t : ℤ) → inRanges t (rangesIn (take n after)) ≡ coveredOnAll (length (buffer .tracks)) t (buffer .frames)
+    common-held-exactly t = ap (inRanges t) common-read ∙ on-every (length (buffer .tracks)) some
+      where
+        some : 1 ≤ length (buffer .tracks)
+        some = some-track buffer (lent-good h ts gs common-well)
 
-  pub common-never-touch : rising (rangesIn (take n after)) ≡ true
-  common-never-touch = ap rising common-read ∙ common-report-rises (bufferOf s) (good-facts (bufferOf s) (well-formed-good s common-well)) _
+        on-every : (m : ℕ) → 1 ≤ m → inRanges t (commonRangesOf m (buffer .frames)) ≡ coveredOnAll m t (buffer .frames)
+        on-every zero l = absurd (omega arith)
+        on-every (suc m) l = common-cover m t (buffer .frames)
+
+    pub common-never-touch : rising (rangesIn (take n after)) ≡ true
+    common-never-touch = ap rising common-read ∙ common-report-rises buffer (good-facts buffer (lent-good h ts gs common-well)) _

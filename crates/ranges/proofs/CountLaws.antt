@@ -1,11 +1,12 @@
 -- A track has at most as many ranges as frames, and the tracks' frames are apart: there are places for what all tracks have in common.
-use mathlib.Core.Path.{_≡_, refl}
+use mathlib.Core.Path.{_≡_, refl, ap}
 use mathlib.Core.Bool.{Bool, true, false, cond}
 use mathlib.Core.List.{List, [], _∷_}
 use Prim.Native.Nat.{ℕ, zero, suc, _+_, _≤_, _<_}
 use native.Mathlib.Numerals.{add-one}
 use native.Mathlib.Omega.{arith}
 use lib.Dec.{leb, eqb}
+use lib.IntN.{ℤ}
 use lib.ListN.{length}
 use lib.Signed.{ltZ}
 use borrow.Author.Tests.{leb-true, leb-false, le-leb, lt-leb, eqb-true, eqb-false, ne-eqb}
@@ -14,6 +15,7 @@ use Rattle.buffer_state.specs.declared.Frame.{Frame}
 use Rattle.buffer_state.specs.Buffer.{endOf}
 use Rattle.buffer_state.specs.Ranges.{Range, joined, common, rangesOf, commonRangesOf}
 use Rattle.buffer_laws.proofs.RangeLaws.{hull}
+use Rattle.ranges.specs.Bars.{Shows}
 
 -- how many frames pass
 pub counted : (Frame → Bool) → List Frame → ℕ
@@ -80,3 +82,21 @@ pub common-next : (t : ℕ) (fs : List Frame) → 1 ≤ t → commonRangesOf (t 
 unfolding commonRangesOf
 common-next zero fs h = absurd (omega arith)
 common-next (suc t) fs h = rw (add-one (suc t))
+
+-- where the first track has no range, all have none in common
+none-common : (t : ℕ) (fs : List Frame) → rangesOf 1 fs ≡ [] → commonRangesOf (suc t) fs ≡ []
+unfolding commonRangesOf common
+none-common zero fs e = e
+none-common (suc t) fs e = ap (λ (rs : List Range). common rs (rangesOf (suc (suc t)) fs)) (none-common t fs e)
+
+empty : {A : Type 0} (l : List A) → 0 ≡ length l → l ≡ []
+empty [] e = refl
+empty (x ∷ l) e = absurd (omega (arith, e))
+
+pub none-shown : (spans : List (List ℤ)) (t : ℕ) (fs : List Frame) → 1 ≤ t → 0 ≡ length (rangesOf 1 fs) → Shows spans 0 (commonRangesOf t fs)
+none-shown spans zero fs h e = absurd (omega arith)
+none-shown spans (suc t) fs h e = rw (none-common t fs (empty (rangesOf 1 fs) e)) (record { rows = refl; count = refl; few = omega arith })
+
+pub one-shown : {spans : List (List ℤ)} {n : ℕ} (t : ℕ) (fs : List Frame) → t ≡ 1 → Shows spans n (rangesOf 1 fs) → Shows spans n (commonRangesOf t fs)
+unfolding commonRangesOf
+one-shown t fs e s = rw e s

@@ -19,14 +19,15 @@ use Rattle.sorting.proofs.SortLaws.{occurs-first, occurs-later}
 use Rattle.buffer_state.specs.declared.Frame.{Frame}
 use Rattle.buffer_state.specs.Layout.{zeroFrame}
 use Rattle.buffer_state.specs.Ranges.{Range, covers, liesIn, inRanges, coveredOn, rangesOf}
-use Rattle.buffer_state.specs.WellFormed.{allOf, goodFrame}
+use Rattle.buffer_state.specs.WellFormed.{allOf}
 use Rattle.buffer_laws.proofs.RisingLaws.{unique}
 use Rattle.buffer_laws.proofs.RangeLaws.{lasts, ranges-cover, ranges-rise}
 use Rattle.buffer_laws.proofs.TestLaws.{all-first, all-rest, all-more, all-none, all-map, all-weaker}
-use Rattle.ranges.specs.Sweep.{timely, keyOf, trackKeys, Keyed, frameAt, stretchOf, stretches, swept}
-use Rattle.ranges.proofs.BarLaws.{next, done, more}
-use Rattle.ranges.proofs.TimeLaws.{timely-natural, good-timely, good-lasts}
-use Rattle.ranges.proofs.SweepLaws.{some, startsFrom, startsRise, swept-rise, swept-cover}
+use Rattle.ranges.specs.Bars.{Shows}
+use Rattle.ranges.specs.Sweep.{timely, sound, keyOf, trackKeys, Keyed, frameAt, stretchOf, stretches, swept}
+use Rattle.ranges.proofs.BarLaws.{next, done, each, more}
+use Rattle.ranges.proofs.TimeLaws.{timely-natural}
+use Rattle.ranges.proofs.SweepLaws.{some, startsFrom, startsRise, rise-in-order, swept-rise, swept-cover}
 
 -- ---- lists with the same occurrences
 
@@ -66,10 +67,6 @@ module _ (t : ℤ) (g : ℕ → Range) where
       ∙ (ap not (same-test (allOf lacks l) (allOf lacks m) (same-all lacks m l (λ k. sym (same k))) (same-all lacks l m same)) ∙ sym (in-some m))
 
 -- ---- a track's keys
-
--- the frame is timely and lasts
-abbrev sound : Frame → Bool
-sound f = timely f && lasts f
 
 module _ (fs : List Frame) where
   -- the key names a sound frame, whose time it has
@@ -175,7 +172,7 @@ module _ {track : ℕ} {fs : List Frame} {n : ℕ} {keys : List ℕ} {k i : ℕ}
     all = rw (next fs i n zeroFrame h (inv .full), ne-eqb (getD fs i zeroFrame .track) track e, ← add-one i) at (inv .all);
   }
 
-  pub all-keys : n ≤ i → k ≤ 1024 → Keyed (record { keys = keys; count = k }) (trackKeys track 0 (take n fs))
+  pub all-keys : n ≤ i → k ≤ 1024 → Keyed keys k (trackKeys track 0 (take n fs))
   unfolding trackKeys
   all-keys h room =
       let e : take k keys ≡ trackKeys track 0 (take n fs) = sym (append-nil (take k keys)) ∙ (rw (done fs i n h) at (inv .all)) in
@@ -190,11 +187,8 @@ keys-few track place (f ∷ gs) =
 
 -- ---- the keys of the first n frames, sorted
 
-module _ (tracks last track n : ℕ) (fs : List Frame) (few : n ≤ 1024) (full : n ≤ length fs) (good : allOf (goodFrame tracks last) (take n fs) ≡ true)
+module _ (track n : ℕ) (fs : List Frame) (few : n ≤ 1024) (full : n ≤ length fs) (good : allOf sound (take n fs) ≡ true)
     (l : List ℕ) (rise : rises l ≡ true) (same : (k : ℕ) → occurrences k l ≡ occurrences k (trackKeys track 0 (take n fs))) where
-  all-sound : allOf sound (take n fs) ≡ true
-  all-sound = all-weaker (goodFrame tracks last) sound (λ f e. and-both (good-timely tracks last f e) (good-lasts tracks last f e)) (take n fs) good
-
   stored-at : At fs 0 (take n fs)
   stored-at j h =
       let e : 0 + j ≡ j = omega arith in
@@ -203,18 +197,41 @@ module _ (tracks last track n : ℕ) (fs : List Frame) (few : n ≤ 1024) (full 
   sorted-proper : allOf (proper fs) l ≡ true
   sorted-proper =
       same-all (proper fs) l (trackKeys track 0 (take n fs)) same
-      (keys-proper fs track 0 (take n fs) (omega (arith, length-take-le n fs full)) stored-at all-sound)
+      (keys-proper fs track 0 (take n fs) (omega (arith, length-take-le n fs full)) stored-at good)
 
   -- each names a timely frame
   pub sorted-timely : allOf (λ key. timely (frameAt fs key)) l ≡ true
   sorted-timely = all-weaker (proper fs) _ (proper-timely fs) l sorted-proper
 
   -- a walk over them gives the track's ranges
-  pub swept-ranges : swept (stretches fs l) ≡ rangesOf track (take n fs)
+  swept-ranges : swept (stretches fs l) ≡ rangesOf track (take n fs)
   swept-ranges =
       let each : allOf some (stretches fs l) ≡ true = all-map (proper fs) some (λ key. stretchOf (frameAt fs key)) (proper-some fs) l sorted-proper in
       unique (swept (stretches fs l)) (rangesOf track (take n fs)) (swept-rise (stretches fs l) each)
-      (ranges-rise track (take n fs) (all-weaker (goodFrame tracks last) lasts (good-lasts tracks last) (take n fs) good))
-      (λ t. swept-cover t (stretches fs l) (keys-rise fs l rise sorted-proper) each
+      (ranges-rise track (take n fs) (all-weaker sound lasts (λ f s. and-right (timely f) _ s) (take n fs) good))
+      (λ t. swept-cover t (stretches fs l) (rise-in-order (stretches fs l) (keys-rise fs l rise sorted-proper)) each
       ∙ (same-cover t (λ key. stretchOf (frameAt fs key)) l (trackKeys track 0 (take n fs)) same
       ∙ (keys-cover fs t track 0 (take n fs) (omega (arith, length-take-le n fs full)) stored-at ∙ sym (ranges-cover track t (take n fs)))))
+
+  pub swept-shown : {spans : List (List ℤ)} {k : ℕ} → Shows spans k (swept (stretches fs l)) → Shows spans k (rangesOf track (take n fs))
+  swept-shown s = rw (← swept-ranges) s
+
+-- ---- the walk over keys
+
+pub none-walked : (fs : List Frame) (keys : List ℕ) (n : ℕ) (spans : List (List ℤ)) → n ≡ 0 → Shows spans 0 (swept (stretches fs (take n keys)))
+unfolding swept
+none-walked fs keys n spans e = rw e (record { rows = refl; count = refl; few = omega arith })
+
+-- the frame that the next key names
+
+module _ (fs : List Frame) (keys : List ℕ) (n i : ℕ) (h : i < n) (full : n ≤ length keys)
+    (place : ℕ) (p : place ≡ getD keys i 0 % 1024) (f : Frame) (d : f ≡ getD fs place zeroFrame) where
+  named : f ≡ frameAt fs (getD keys i 0)
+  named = d ∙ ap (λ (m : ℕ). getD fs m zeroFrame) p
+
+  pub named-timely : allOf (λ key. timely (frameAt fs key)) (take n keys) ≡ true → timely f ≡ true
+  named-timely e = ap timely named ∙ each keys (λ key. timely (frameAt fs key)) i n 0 h full e
+
+  pub named-next : (q : Range) → q ≡ stretchOf f → stretches fs (slice i n keys) ≡ q ∷ stretches fs (slice (i + 1) n keys)
+  named-next q e =
+      ap (stretches fs) (next keys i n 0 h full) ∙ ap (λ (r : Range). r ∷ stretches fs (slice (i + 1) n keys)) (sym (e ∙ ap stretchOf named))

@@ -1,9 +1,11 @@
 pub mod BarLaws
-pub mod CountLaws
+pub mod TimeLaws
+pub mod StoredLaws
+pub mod SweepLaws
+pub mod OwnLaws
 pub mod KeyLaws
 pub mod MeetLaws
+pub mod CountLaws
 pub mod StoresLaws
-pub mod SweepLaws
-pub mod TimeLaws
 pub mod CallLaws
 pub mod Cited

@@ -2,20 +2,23 @@
 -- other, so that it is done with once their overlap is taken.
 use mathlib.Core.Path.{_≡_, refl, sym, ap, ap₂, _∙_}
 use mathlib.Core.Bool.{Bool, true, false, cond}
-use mathlib.Core.List.{List, [], _∷_, _++_, map, append-assoc, append-nil}
+use mathlib.Core.List.{List, [], _∷_, _++_, append-assoc, append-nil}
 use Prim.Native.Nat.{ℕ, _+_, _≤_, _<_}
+use native.Mathlib.Numerals.{add-one}
 use native.Mathlib.Omega.{arith}
-use lib.ListN.{length, take, getD, set, length-set}
-use lib.Seq.{slice, take-set-le}
+use lib.IntN.{ℤ}
+use lib.ListN.{length, take, drop, getD, set, length-set, drop-of-length-le}
+use lib.Seq.{slice, drop-cons, take-set-le, drop-set-lt}
 use lib.Signed.{ltZ, _≤ℤ_, _<ℤ_}
 use Rattle.laws.proofs.BoolLaws.{by-test}
 use Rattle.laws.proofs.IntLaws.{test-lt, test-ge, ge-test, lt-le, le-lt, le-le, weaken}
+use Rattle.buffer_state.specs.Answers.{laid}
 use Rattle.buffer_state.specs.Ranges.{Range, rising, overlap, clipped, common}
 use Rattle.buffer_laws.proofs.RisingLaws.{lesser-left, lesser-right, greater-left, greater-right, rise-some, rise-gap, rise-tail}
 use Rattle.buffer_laws.proofs.CommonLaws.{shared}
-use Rattle.ranges.specs.declared.Span.{Span}
-use Rattle.ranges.specs.Bars.{rangeOf, Shows}
-use Rattle.ranges.proofs.BarLaws.{zeroSpan, next, done, mapped-more, shows}
+use Rattle.ranges.specs.Bars.{rangeIn, rowOf, Shows}
+use Rattle.ranges.specs.Read.{rangesIn}
+use Rattle.ranges.proofs.BarLaws.{next, done, more, shows}
 
 -- ---- ranges that do not meet
 
@@ -66,88 +69,97 @@ common-none (r ∷ rs) = common-none rs
 
 -- ---- the loop
 
--- the ranges from the one at i on, of the first n
-abbrev pub from : ℕ → ℕ → List Span → List Range
-from i n xs = map rangeOf (slice i n xs)
+-- the ranges from the one at j on, of the first n rows
+abbrev pub from : ℕ → ℕ → List (List ℤ) → List Range
+from j n ys = rangesIn (slice j n ys)
 
--- the first k ranges found, with what the two lists have in common from i and j on, are all
-pub record Meeting (xs ys : List Span) (m n : ℕ) (spans : List Span) (k i j : ℕ) : Type 0 where
-  pub left-full : m ≤ length xs
+-- the ranges from the one at i on, of all rows
+abbrev pub rest : ℕ → List (List ℤ) → List Range
+rest i spans = rangesIn (drop i spans)
+
+-- the first k rows, with what the rows from i on and the other list from j on have in common, are all
+pub record Meeting (spans : List (List ℤ)) (k i : ℕ) (ys : List (List ℤ)) (n j : ℕ) (all : List Range) : Type 0 where
   pub right-full : n ≤ length ys
   pub size : length spans ≡ 1024
-  pub left : rising (from i m xs) ≡ true
+  pub left : rising (rest i spans) ≡ true
   pub right : rising (from j n ys) ≡ true
-  pub all : map rangeOf (take k spans) ++ common (from i m xs) (from j n ys) ≡ common (from 0 m xs) (from 0 n ys)
+  pub rows : take k spans ++ laid (common (rest i spans) (from j n ys)) ≡ laid all
 
 -- a stretch is found if it has an instant
-kept-more : (spans : List Span) (k : ℕ) (z : Span) (rest : List Range) → k < length spans → (t : Bool)
-    → map rangeOf (take (k + cond t 1 0) (set spans k z)) ++ rest ≡ map rangeOf (take k spans) ++ (cond t (rangeOf z ∷ []) [] ++ rest)
-kept-more spans k z rest h true = mapped-more spans rangeOf k z rest h
-kept-more spans k z rest h false =
+kept-more : (spans : List (List ℤ)) (k : ℕ) (z : Range) (others : List Range) → k < length spans → (t : Bool)
+    → take (k + cond t 1 0) (set spans k (rowOf z)) ++ laid others ≡ take k spans ++ laid (cond t (z ∷ []) [] ++ others)
+kept-more spans k z others h true = more spans k (rowOf z) (laid others) h
+kept-more spans k z others h false =
     let e : k + 0 ≡ k = omega arith in
-    rw (e, take-set-le k spans k z (omega arith))
+    rw (e, take-set-le k spans k (rowOf z) (omega arith))
 
-pub one-at-most : (l : ℕ) (z : Span) → l ≡ cond (ltZ (z .start) (z .end)) 1 0 → l ≤ 1
+pub one-at-most : (l : ℕ) (z : Range) → l ≡ cond (ltZ (z .start) (z .end)) 1 0 → l ≤ 1
 one-at-most l z e = rw e (by-test (λ n. n ≤ 1) (ltZ (z .start) (z .end)) {x = 1} {y = 0} (λ _. omega arith) (λ _. omega arith))
 
-module _ {xs ys : List Span} {m n : ℕ} {spans : List Span} {k i j : ℕ} (inv : Meeting xs ys m n spans k i j) where
-  abbrev x : Range
-  x = rangeOf (getD xs i zeroSpan)
-
-  abbrev y : Range
-  y = rangeOf (getD ys j zeroSpan)
-
-  module _ (h : i < m) (g : j < n) (room : k < 1024) (z : Span) (e : rangeOf z ≡ shared x y) (l : ℕ) (p : l ≡ cond (ltZ (z .start) (z .end)) 1 0) where
-    from-x : from i m xs ≡ x ∷ from (i + 1) m xs
-    from-x = ap (map rangeOf) (next xs i m zeroSpan h (inv .left-full))
+module _ {spans : List (List ℤ)} {k i : ℕ} {ys : List (List ℤ)} {n j : ℕ} {all : List Range} (inv : Meeting spans k i ys n j all) where
+  module _ (h : i < 1024) (g : j < n) (room : k < i) (x y z : Range) (ex : x ≡ rangeIn (getD spans i [])) (ey : y ≡ rangeIn (getD ys j []))
+      (e : z ≡ shared x y) (after : List (List ℤ)) (w : after ≡ set spans k (rowOf z)) (l : ℕ) (p : l ≡ cond (ltZ (z .start) (z .end)) 1 0) where
+    from-x : rest i spans ≡ x ∷ rest (i + 1) spans
+    from-x = rw (add-one i, ex) (ap rangesIn (drop-cons spans i [] (omega (arith, inv .size))))
 
     from-y : from j n ys ≡ y ∷ from (j + 1) n ys
-    from-y = ap (map rangeOf) (next ys j n zeroSpan g (inv .right-full))
+    from-y = ap rangesIn (next ys j n [] g (inv .right-full)) ∙ ap (λ (r : Range). r ∷ from (j + 1) n ys) (sym ey)
 
-    rise-x : rising (x ∷ from (i + 1) m xs) ≡ true
+    rise-x : rising (x ∷ rest (i + 1) spans) ≡ true
     rise-x = sym (ap rising from-x) ∙ inv .left
 
     rise-y : rising (y ∷ from (j + 1) n ys) ≡ true
     rise-y = sym (ap rising from-y) ∙ inv .right
 
-    more-found : (rest : List Range) → common (x ∷ from (i + 1) m xs) (y ∷ from (j + 1) n ys) ≡ overlap x y ++ rest
-        → map rangeOf (take (k + l) (set spans k z)) ++ rest ≡ common (from 0 m xs) (from 0 n ys)
-    more-found rest d =
-        rw p (kept-more spans k z rest (omega (arith, inv .size)) (ltZ (z .start) (z .end)))
-        ∙ (ap (λ (r : Range). map rangeOf (take k spans) ++ (cond (ltZ (r .start) (r .end)) (r ∷ []) [] ++ rest)) e
-        ∙ (ap (λ (l : List Range). map rangeOf (take k spans) ++ l) (sym (ap₂ common from-x from-y ∙ d)) ∙ inv .all))
+    size-after : length after ≡ 1024
+    size-after = ap length w ∙ length-set spans k (rowOf z) ∙ inv .size
 
-    pub left-more : ltZ (x .end) (y .end) ≡ true → Meeting xs ys m n (set spans k z) (k + l) (i + 1) j
-    left-more t = record {
-      left-full = inv .left-full;
-      right-full = inv .right-full;
-      size = length-set spans k z ∙ inv .size;
-      left = rise-tail x _ rise-x;
-      right = inv .right;
-      all =
-          more-found (common (from (i + 1) m xs) (from j n ys))
-          (left-done x y _ _ (weaken (test-lt t)) rise-y ∙ ap (λ (l : List Range). overlap x y ++ common (from (i + 1) m xs) l) (sym from-y));
-    }
+    -- a row is written in front of those that are not read
+    unread : (m : ℕ) → i ≤ m → rest m after ≡ rest m spans
+    unread m f = rw w (ap rangesIn (drop-set-lt m spans k (rowOf z) (omega arith)))
 
-    pub right-more : ltZ (x .end) (y .end) ≡ false → Meeting xs ys m n (set spans k z) (k + l) i (j + 1)
-    right-more t = record {
-      left-full = inv .left-full;
-      right-full = inv .right-full;
-      size = length-set spans k z ∙ inv .size;
-      left = inv .left;
-      right = rise-tail y _ rise-y;
-      all =
-          more-found (common (from i m xs) (from (j + 1) n ys))
-          (right-done x y _ _ (test-ge t) rise-x ∙ ap (λ (l : List Range). overlap x y ++ common l (from (j + 1) n ys)) (sym from-x));
-    }
+    more-found : (others : List Range) → common (x ∷ rest (i + 1) spans) (y ∷ from (j + 1) n ys) ≡ overlap x y ++ others
+        → take (k + l) after ++ laid others ≡ laid all
+    more-found others d =
+        rw (p, w) (kept-more spans k z others (omega (arith, inv .size)) (ltZ (z .start) (z .end)))
+        ∙ (ap (λ (r : Range). take k spans ++ laid (cond (ltZ (r .start) (r .end)) (r ∷ []) [] ++ others)) e
+        ∙ (ap (λ (l : List Range). take k spans ++ laid l) (sym (ap₂ common from-x from-y ∙ d)) ∙ inv .rows))
 
-  all-met : common (from i m xs) (from j n ys) ≡ [] → k ≤ 1024 → Shows (record { spans = spans; count = k }) (common (from 0 m xs) (from 0 n ys))
+    pub left-more : ltZ (x .end) (y .end) ≡ true → Meeting after (k + l) (i + 1) ys n j all
+    left-more t =
+        let same : rest (i + 1) after ≡ rest (i + 1) spans = unread (i + 1) (omega arith) in
+        record {
+          right-full = inv .right-full;
+          size = size-after;
+          left = ap rising same ∙ rise-tail x _ rise-x;
+          right = inv .right;
+          rows =
+              ap (λ (l' : List Range). take (k + l) after ++ laid (common l' (from j n ys))) same
+              ∙ more-found (common (rest (i + 1) spans) (from j n ys))
+              (left-done x y _ _ (weaken (test-lt t)) rise-y ∙ ap (λ (l : List Range). overlap x y ++ common (rest (i + 1) spans) l) (sym from-y));
+        }
+
+    pub right-more : ltZ (x .end) (y .end) ≡ false → Meeting after (k + l) i ys n (j + 1) all
+    right-more t =
+        let same : rest i after ≡ rest i spans = unread i (omega arith) in
+        record {
+          right-full = inv .right-full;
+          size = size-after;
+          left = ap rising same ∙ inv .left;
+          right = rise-tail y _ rise-y;
+          rows =
+              ap (λ (l' : List Range). take (k + l) after ++ laid (common l' (from (j + 1) n ys))) same
+              ∙ more-found (common (rest i spans) (from (j + 1) n ys))
+              (right-done x y _ _ (test-ge t) rise-x ∙ ap (λ (l : List Range). overlap x y ++ common l (from (j + 1) n ys)) (sym from-x));
+        }
+
+  all-met : common (rest i spans) (from j n ys) ≡ [] → k ≤ 1024 → Shows spans k all
   all-met none room =
-      shows (record { spans = spans; count = k }) _ (sym (append-nil (map rangeOf (take k spans))) ∙ (rw none at (inv .all))) (inv .size) room
+      shows spans k _ (sym (append-nil (take k spans)) ∙ (rw none at (inv .rows))) (omega (arith, inv .size)) room
 
-  pub left-over : m ≤ i → k ≤ 1024 → Shows (record { spans = spans; count = k }) (common (from 0 m xs) (from 0 n ys))
+  pub left-over : 1024 ≤ i → k ≤ 1024 → Shows spans k all
   unfolding common
-  left-over h = all-met (ap (λ (l : List Span). common (map rangeOf l) (from j n ys)) (done xs i m h))
+  left-over h = all-met (ap (λ (l : List (List ℤ)). common (rangesIn l) (from j n ys)) (drop-of-length-le spans {i = i} (omega (arith, inv .size))))
 
-  pub right-over : n ≤ j → k ≤ 1024 → Shows (record { spans = spans; count = k }) (common (from 0 m xs) (from 0 n ys))
-  right-over h = all-met (ap (λ (l : List Span). common (from i m xs) (map rangeOf l)) (done ys j n h) ∙ common-none (from i m xs))
+  pub right-over : n ≤ j → k ≤ 1024 → Shows spans k all
+  right-over h = all-met (ap (λ (l : List (List ℤ)). common (rest i spans) (rangesIn l)) (done ys j n h) ∙ common-none (rest i spans))

@@ -1,27 +1,24 @@
--- A walk over stretches whose starts rise gives a rising list that holds their instants: a stretch that starts at or before the end
--- of the open range makes one with it, and one that starts later ends it for good.
+-- A walk over stretches none of which starts before the range that is open gives a rising list that holds their instants: a stretch
+-- that starts at or before the end of that range makes one with it, and one that starts later ends it for good.
 use mathlib.Core.Path.{_≡_, refl, sym, ap, _∙_}
 use mathlib.Core.Bool.{Bool, true, false, _&&_, _||_, or-assoc}
-use mathlib.Core.List.{List, [], _∷_, _++_, map, append-nil}
-use Prim.Native.Nat.{ℕ, _+_, _%_, _≤_, _<_}
+use mathlib.Core.List.{List, [], _∷_, _++_, append-nil}
+use Prim.Native.Nat.{ℕ, _+_, _<_}
 use native.Mathlib.Omega.{arith}
 use lib.IntN.{ℤ}
-use lib.ListN.{length, take, getD, set, length-set}
-use lib.Seq.{slice}
+use lib.ListN.{length, take, set, length-set}
 use lib.Signed.{ltZ, leZ, _<ℤ_, _≤ℤ_}
-use Rattle.laws.proofs.BoolLaws.{by-test, and-left, and-right, and-both}
+use Rattle.laws.proofs.BoolLaws.{split, by-test, and-left, and-right, and-both}
 use Rattle.laws.proofs.IntLaws.{test-lt, test-le, lt-test, le-test, test-ge, ge-test, lt-le, le-lt, le-le, weaken}
-use Rattle.buffer_state.specs.declared.Frame.{Frame}
-use Rattle.buffer_state.specs.Layout.{zeroFrame}
+use Rattle.buffer_state.specs.Answers.{laid}
 use Rattle.buffer_state.specs.Ranges.{Range, liesIn, inRanges, endsBefore, rising}
 use Rattle.buffer_state.specs.WellFormed.{allOf}
 use Rattle.buffer_laws.proofs.TestLaws.{all-first, all-rest}
 use Rattle.buffer_laws.proofs.RisingLaws.{greater-left, rise-more}
 use Rattle.buffer_laws.proofs.RangeLaws.{hull, hull-cover}
-use Rattle.ranges.specs.declared.Span.{Span}
-use Rattle.ranges.specs.Bars.{rangeOf, Shows}
-use Rattle.ranges.specs.Sweep.{grown, sweptFrom, swept, frameAt, stretchOf, stretches}
-use Rattle.ranges.proofs.BarLaws.{next, done, mapped-more, shows}
+use Rattle.ranges.specs.Bars.{rowOf, Shows}
+use Rattle.ranges.specs.Sweep.{grown, sweptFrom, swept, inOrder}
+use Rattle.ranges.proofs.BarLaws.{more, shows}
 
 -- it has an instant
 abbrev pub some : Range → Bool
@@ -68,25 +65,45 @@ swept-rise (r ∷ rs) e = from-rise r rs (test-lt (all-first some r rs e)) (all-
 grown-hull : (r q : Range) → r .start ≤ℤ q .start → grown r q ≡ hull r q
 grown-hull r q h = rw (ge-test h)
 
-from-cover : (t : ℤ) (r : Range) (qs : List Range) → startsFrom r qs ≡ true → allOf some qs ≡ true
+from-cover : (t : ℤ) (r : Range) (qs : List Range) → inOrder r qs ≡ true → allOf some qs ≡ true
     → inRanges t (sweptFrom r qs) ≡ (liesIn t r || inRanges t qs)
-unfolding sweptFrom startsFrom inRanges
+unfolding sweptFrom inOrder inRanges
 from-cover t r [] s e = refl
 from-cover t r (q ∷ qs) s e =
-    let here : r .start ≤ℤ q .start = test-le (and-left _ _ s) in
-    let later : startsFrom q qs ≡ true = and-right (leZ (r .start) (q .start)) _ s in
     let rest : allOf some qs ≡ true = all-rest some q qs e in
+    split (ltZ (r .end) (q .start))
+    (λ d. rw d (ap (λ b. liesIn t r || b) (from-cover t q qs (rw d at s) rest)))
+    (λ d.
+    let ordered : (leZ (r .start) (q .start) && inOrder (grown r q) qs) ≡ true = rw d at s in
+    let here : r .start ≤ℤ q .start = test-le (and-left _ _ ordered) in
     let within : r .start ≤ℤ q .end = weaken (le-lt here (test-lt (all-first some q qs e))) in
-    by-test (λ l. inRanges t l ≡ (liesIn t r || (liesIn t q || inRanges t qs))) (ltZ (r .end) (q .start))
-    (λ _. ap (λ b. liesIn t r || b) (from-cover t q qs later rest))
-    (λ d. from-cover t (grown r q) qs (from-sooner (grown r q) q qs here later) rest
+    rw d (from-cover t (grown r q) qs (and-right (leZ (r .start) (q .start)) _ ordered) rest
     ∙ (ap (λ b. b || inRanges t qs) (ap (liesIn t) (grown-hull r q here) ∙ hull-cover t r q (test-ge d) within)
-    ∙ or-assoc (liesIn t r) (liesIn t q) (inRanges t qs)))
+    ∙ or-assoc (liesIn t r) (liesIn t q) (inRanges t qs))))
 
-pub swept-cover : (t : ℤ) (rs : List Range) → startsRise rs ≡ true → allOf some rs ≡ true → inRanges t (swept rs) ≡ inRanges t rs
+-- the first opens a range
+abbrev pub allInOrder : List Range → Bool
+allInOrder [] = true
+allInOrder (r ∷ rs) = inOrder r rs
+
+pub swept-cover : (t : ℤ) (rs : List Range) → allInOrder rs ≡ true → allOf some rs ≡ true → inRanges t (swept rs) ≡ inRanges t rs
 unfolding swept inRanges
 swept-cover t [] s e = refl
 swept-cover t (r ∷ rs) s e = from-cover t r rs s (all-rest some r rs e)
+
+-- stretches whose starts rise are in order
+starts-in-order : (r : Range) (qs : List Range) → startsFrom r qs ≡ true → inOrder r qs ≡ true
+unfolding startsFrom inOrder
+starts-in-order r [] s = refl
+starts-in-order r (q ∷ qs) s =
+    let here : leZ (r .start) (q .start) ≡ true = and-left _ _ s in
+    let later : startsFrom q qs ≡ true = and-right (leZ (r .start) (q .start)) _ s in
+    by-test (λ b. b ≡ true) (ltZ (r .end) (q .start)) (λ _. starts-in-order q qs later)
+    (λ _. and-both here (starts-in-order (grown r q) qs (from-sooner (grown r q) q qs (test-le here) later)))
+
+pub rise-in-order : (rs : List Range) → startsRise rs ≡ true → allInOrder rs ≡ true
+rise-in-order [] s = refl
+rise-in-order (r ∷ rs) s = starts-in-order r rs s
 
 -- ---- the loop that walks
 
@@ -99,59 +116,56 @@ module _ (r q : Range) (qs : List Range) where
   unfolding sweptFrom
   from-grows t = rw t
 
-pub none-swept : (spans : List Span) (fs : List Frame) (keys : List ℕ) (n : ℕ) → n ≡ 0
-    → Shows (record { spans = spans; count = 0 }) (swept (stretches fs (take n keys)))
-unfolding swept
-none-swept spans fs keys n e = rw e (record { ranges = refl; count = refl; few = omega arith })
+  order-opens : ltZ (r .end) (q .start) ≡ true → inOrder r (q ∷ qs) ≡ inOrder q qs
+  unfolding inOrder
+  order-opens t = rw t
 
--- x is the stretch of the frame that a key names
-abbrev pub Named : List Frame → List ℕ → Span → ℕ → Type 0
-Named fs keys x i = rangeOf x ≡ stretchOf (frameAt fs (getD keys i 0))
+  order-grows : ltZ (r .end) (q .start) ≡ false → ltZ (q .start) (r .start) ≡ false → inOrder r (q ∷ qs) ≡ inOrder (grown r q) qs
+  unfolding inOrder
+  order-grows t s = rw (t, le-test (test-ge s))
 
-pub names : (fs : List Frame) (keys : List ℕ) (i : ℕ) (x : Span) (place : ℕ) → rangeOf x ≡ stretchOf (getD fs place zeroFrame)
-    → place ≡ getD keys i 0 % 1024 → Named fs keys x i
-names fs keys i x place e p = e ∙ ap (λ (m : ℕ). stretchOf (getD fs m zeroFrame)) p
-
--- the first k ranges, with a walk from the open one over the stretches from i on, are the walk over all
-pub record Walking (fs : List Frame) (keys : List ℕ) (n : ℕ) (spans : List Span) (x : Span) (k i : ℕ) : Type 0 where
-  pub full : n ≤ length keys
+-- the first k rows, with a walk from the open range over the stretches that are left, are the walk over all
+pub record Walking (all left : List Range) (spans : List (List ℤ)) (r : Range) (k : ℕ) : Type 0 where
   pub size : length spans ≡ 1024
-  pub all : map rangeOf (take k spans) ++ sweptFrom (rangeOf x) (stretches fs (slice i n keys)) ≡ swept (stretches fs (take n keys))
+  pub rows : take k spans ++ laid (sweptFrom r left) ≡ laid (swept all)
 
-pub walk-begins : (fs : List Frame) (keys : List ℕ) (n : ℕ) (spans : List Span) (x : Span) → n ≤ length keys → length spans ≡ 1024 → 0 < n
-    → Named fs keys x 0 → Walking fs keys n spans x 0 1
+pub walk-begins : (all left : List Range) (spans : List (List ℤ)) (r : Range) → length spans ≡ 1024 → all ≡ r ∷ left → Walking all left spans r 0
 unfolding swept
-walk-begins fs keys n spans x full size h e = record {
-  full = full;
-  size = size;
-  all =
-      ap (λ (r : Range). sweptFrom r (stretches fs (slice 1 n keys))) e ∙ ap (λ (l : List ℕ). swept (stretches fs l)) (sym (next keys 0 n 0 h full));
-}
+walk-begins all left spans r size e = record { size = size; rows = ap (λ (l : List Range). laid (swept l)) (sym e) }
 
-module _ {fs : List Frame} {keys : List ℕ} {n : ℕ} {spans : List Span} {x : Span} {k i : ℕ} (inv : Walking fs keys n spans x k i) where
-  module _ (h : i < n) (y : Span) (e : Named fs keys y i) where
-    turned : (l : List Range) → sweptFrom (rangeOf x) (rangeOf y ∷ stretches fs (slice (i + 1) n keys)) ≡ l
-        → map rangeOf (take k spans) ++ l ≡ swept (stretches fs (take n keys))
-    turned l g =
-        let coming : sweptFrom (rangeOf x) (stretches fs (slice i n keys)) ≡ l =
-        ap (λ (m : List ℕ). sweptFrom (rangeOf x) (stretches fs m)) (next keys i n 0 h (inv .full))
-        ∙ (ap (λ (r : Range). sweptFrom (rangeOf x) (r ∷ stretches fs (slice (i + 1) n keys))) (sym e) ∙ g) in
-        ap (λ (m : List Range). map rangeOf (take k spans) ++ m) (sym coming) ∙ inv .all
+module _ {all left : List Range} {spans : List (List ℤ)} {r : Range} {k : ℕ} (inv : Walking all left spans r k) where
+  module _ (q : Range) (rest : List Range) (e : left ≡ q ∷ rest) where
+    turned : (l : List Range) → sweptFrom r (q ∷ rest) ≡ l → take k spans ++ laid l ≡ laid (swept all)
+    turned l g = ap (λ (m : List Range). take k spans ++ laid m) (sym (ap (sweptFrom r) e ∙ g)) ∙ inv .rows
 
-    pub opens : k < 1024 → ltZ (x .end) (y .start) ≡ true → Walking fs keys n (set spans k x) y (k + 1) (i + 1)
-    opens room t = record {
-      full = inv .full;
-      size = length-set spans k x ∙ inv .size;
-      all = mapped-more spans rangeOf k x _ (omega (arith, inv .size)) ∙ turned _ (from-opens (rangeOf x) (rangeOf y) _ t);
+    pub opens : (after : List (List ℤ)) → after ≡ set spans k (rowOf r) → k < 1024 → ltZ (r .end) (q .start) ≡ true → Walking all rest after q (k + 1)
+    opens after w room t = record {
+      size = ap length w ∙ length-set spans k (rowOf r) ∙ inv .size;
+      rows = rw w (more spans k (rowOf r) (laid (sweptFrom q rest)) (omega (arith, inv .size)) ∙ turned _ (from-opens r q rest t));
     }
 
-    pub grows : (z : Span) → rangeOf z ≡ grown (rangeOf x) (rangeOf y) → ltZ (x .end) (y .start) ≡ false → Walking fs keys n spans z k (i + 1)
-    grows z g t = record { full = inv .full; size = inv .size; all = rw g (turned _ (from-grows (rangeOf x) (rangeOf y) _ t)) }
+    pub grows : ltZ (r .end) (q .start) ≡ false → Walking all rest spans (grown r q) k
+    grows t = record { size = inv .size; rows = turned _ (from-grows r q rest t) }
 
-  pub walk-ends : n ≤ i → k < 1024 → Shows (record { spans = set spans k x; count = k + 1 }) (swept (stretches fs (take n keys)))
-  unfolding sweptFrom
-  walk-ends h room =
-      let e : map rangeOf (take (k + 1) (set spans k x)) ≡ swept (stretches fs (take n keys)) =
-      sym (append-nil (map rangeOf (take (k + 1) (set spans k x))))
-      ∙ (mapped-more spans rangeOf k x [] (omega (arith, inv .size)) ∙ (rw (done keys i n h) at (inv .all))) in
-      shows (record { spans = set spans k x; count = k + 1 }) _ e (length-set spans k x ∙ inv .size) (omega arith)
+    -- and what is left stays in order, or not, as all are
+    pub opens-order : inOrder r left ≡ allInOrder all → ltZ (r .end) (q .start) ≡ true → inOrder q rest ≡ allInOrder all
+    opens-order o t = sym (ap (inOrder r) e ∙ order-opens r q rest t) ∙ o
+
+    pub grows-order : inOrder r left ≡ allInOrder all → ltZ (r .end) (q .start) ≡ false → ltZ (q .start) (r .start) ≡ false
+        → inOrder (grown r q) rest ≡ allInOrder all
+    grows-order o t s = sym (ap (inOrder r) e ∙ order-grows r q rest t s) ∙ o
+
+  module _ (e : left ≡ []) where
+    pub walk-ends : (after : List (List ℤ)) → after ≡ set spans k (rowOf r) → k < 1024 → Shows after (k + 1) (swept all)
+    unfolding sweptFrom
+    walk-ends after w room =
+        let full : k < length spans = omega (arith, inv .size) in
+        let size : length after ≡ 1024 = ap length w ∙ length-set spans k (rowOf r) ∙ inv .size in
+        let rows : take (k + 1) after ≡ laid (swept all) =
+        sym (append-nil (take (k + 1) after)) ∙ (rw w (more spans k (rowOf r) [] full))
+        ∙ ap (λ (l : List Range). take k spans ++ laid (sweptFrom r l)) (sym e) ∙ inv .rows in
+        shows after (k + 1) (swept all) rows (omega (arith, size)) (omega arith)
+
+    pub ends-order : inOrder r left ≡ allInOrder all → allInOrder all ≡ true
+    unfolding inOrder
+    ends-order o = sym o ∙ ap (inOrder r) e

@@ -1,27 +1,40 @@
--- What a report's room of its own holds, and the lines that it gives a lent list.
+-- What the reports' inner functions are handed, what their room holds, and the lines that a report gives a lent list.
 use mathlib.Core.Path.{_≡_}
 use mathlib.Core.Bool.{true}
-use mathlib.Core.List.{List, map}
-use Prim.Native.Nat.{_+_, _≤_}
-use lib.IntN.{ℤ}
-use lib.ListN.{length, take}
-use Rattle.buffer_state.specs.Answers.{rangeCount, rangesAfter}
+use mathlib.Core.List.{List, [], _∷_}
+use Prim.Native.Nat.{ℕ, _+_, _≤_, _<_}
+use lib.IntN.{ℤ, pos}
+use lib.ListN.{length, take, drop, getD}
+use Rattle.buffer_state.specs.Answers.{laid, rangeCount, rangesAfter}
 use Rattle.buffer_state.specs.Refusals.{Result}
 use Rattle.buffer_state.specs.declared.Count.{Count}
-use Rattle.buffer_state.specs.declared.State.{State}
+use Rattle.buffer_state.specs.declared.Frame.{Frame}
+use Rattle.buffer_state.specs.Layout.{zeroFrame}
+use Rattle.buffer_state.specs.Lent.{framesOf, Lengths}
 use Rattle.buffer_state.specs.Limits.{places}
 use Rattle.buffer_state.specs.Ranges.{Range, rising}
-use Rattle.buffer_state.specs.WellFormed.{allOf, goodFrame}
-use Rattle.store.specs.Marks.{stored}
+use Rattle.buffer_state.specs.WellFormed.{allOf, sorted}
 use Rattle.ranges.specs.declared.Span.{Span}
-use Rattle.ranges.specs.declared.Bars.{Bars}
+use Rattle.ranges.specs.Read.{rangesIn}
+use Rattle.ranges.specs.Sweep.{sound, ownStretches}
 
--- ---- the state's frames
+-- ---- the stored frames
 
--- what a well-formed state says of those that count
-pub record Stores (s : State) : Type 0 where
-  pub few : s .nframes ≤ places
-  pub good : allOf (goodFrame (s .ntracks) (s .last)) (stored s) ≡ true
+-- the first n that the arrays hold
+abbrev pub stored : List (List ℤ) → List (List ℕ) → ℕ → List Frame
+stored ts gs n = take n (framesOf ts gs)
+
+-- what a well-formed state says of them
+pub record Stores (ts : List (List ℤ)) (gs : List (List ℕ)) (n : ℕ) : Type 0 where
+  pub long : Lengths ts gs
+  pub few : n ≤ places
+  pub each : allOf sound (stored ts gs n) ≡ true
+  pub order : sorted (stored ts gs n) ≡ true
+
+-- p is the place of the track's first frame, or past the last frame
+pub record Begins (track : ℕ) (fs : List Frame) (p : ℕ) : Type 0 where
+  pub own : p < length fs → getD fs p zeroFrame .track ≡ track
+  pub from : ownStretches track (drop p fs) ≡ ownStretches track fs
 
 -- ---- bars
 
@@ -29,21 +42,25 @@ pub record Stores (s : State) : Type 0 where
 abbrev pub rangeOf : Span → Range
 rangeOf x = record { start = x .start; end = x .end }
 
--- the ranges that bars hold
-abbrev pub barsOf : Bars → List Range
-barsOf b = map rangeOf (take (b .count) (b .spans))
+-- a range as a row, and a row as a range
+abbrev pub rowOf : Range → List ℤ
+rowOf r = r .start ∷ r .end ∷ []
 
--- bars hold these ranges and say how many; there are places for them
-pub record Shows (b : Bars) (rs : List Range) : Type 0 where
-  pub ranges : barsOf b ≡ rs
-  pub count : b .count ≡ length rs
-  pub few : b .count ≤ places
+abbrev pub rangeIn : List ℤ → Range
+rangeIn row = record { start = getD row 0 (pos 0); end = getD row 1 (pos 0) }
 
--- ranges of both in rising order, and places for all that they can have in common
-pub record Meets (a b : Bars) : Type 0 where
-  pub left : rising (barsOf a) ≡ true
-  pub right : rising (barsOf b) ≡ true
-  pub few : a .count + b .count ≤ places
+-- the first n rows are these ranges
+pub record Shows (spans : List (List ℤ)) (n : ℕ) (rs : List Range) : Type 0 where
+  pub rows : take n spans ≡ laid rs
+  pub count : n ≡ length rs
+  pub few : n ≤ places
+
+-- ranges of both in rising order, and places for them all
+pub record Meets (xs : List (List ℤ)) (m : ℕ) (ys : List (List ℤ)) (n : ℕ) : Type 0 where
+  pub right-full : n ≤ length ys
+  pub left : rising (rangesIn (take m xs)) ≡ true
+  pub right : rising (rangesIn (take n ys)) ≡ true
+  pub few : m + n ≤ places
 
 -- ---- a report
 

@@ -1,3 +1,3 @@
-pub mod Bars
 pub mod Sweep
 pub mod Read
+pub mod Bars

@@ -1,80 +1,117 @@
 -- The call: a removal in the words of the code is the definition's, and its refusals come in the definition's order.
 use mathlib.Core.Path.{_≡_, refl, sym, ap, _∙_}
 use mathlib.Core.Bool.{Bool, true, false, cond, not, _||_}
-use mathlib.Core.List.{List}
+use mathlib.Core.List.{List, [], _++_, map, append-nil}
 use Prim.Native.Nat.{ℕ, _≤_, _<_}
 use lib.IntN.{ℤ, pos}
 use lib.Ieee.{Float}
+use lib.ListN.{length}
 use lib.Signed.{ltZ}
 use borrow.Author.Tests.{lt-ltb, le-ltb}
 use Rattle.seconds.specs.Seconds.{Bound, convertible, convertibleEnd, microsOf, boundOf}
+use Rattle.buffer_state.specs.declared.Frame.{Frame}
 use Rattle.buffer_state.specs.declared.Refusal.the-variants.{IllFormed, ShortFates, Seconds, Order}
-use Rattle.buffer_state.specs.declared.State.{State}
+use Rattle.buffer_state.specs.declared.Head.{Head}
 use Rattle.buffer_state.specs.Answers.{removeResult}
 use Rattle.buffer_state.specs.Append.{Outcome}
-use Rattle.buffer_state.specs.Buffer.{Buffer}
-use Rattle.buffer_state.specs.Layout.{stateOf, bufferOf, wellFormed}
+use Rattle.buffer_state.specs.Buffer.{Buffer, withFrames}
+use Rattle.buffer_state.specs.Layout.{bufferOf}
+use Rattle.buffer_state.specs.Lent.{stateAt, headOf, wellFormedAt}
 use Rattle.buffer_state.specs.Limits.{places}
 use Rattle.buffer_state.specs.Refusals.{Result, refused, done}
-use Rattle.buffer_state.specs.Remove.{beforeBound, removalMarks, removed, remove}
+use Rattle.buffer_state.specs.Remove.{beforeBound, removalMarks, afterLoss, removed, remove}
 use Rattle.buffer_state.specs.Store.{Marked, kept, linesOf}
-use Rattle.buffer_laws.proofs.LayoutLaws.{ill-formed-refused, on-well-formed}
-use Rattle.store.specs.Marks.{stored, holding}
+use Rattle.buffer_state.specs.WellFormed.{allOf}
+use Rattle.buffer_laws.proofs.LentLaws.{ill-formed-refused, on-well-formed}
+use Rattle.taking.specs.declared.Span.{Span}
+use Rattle.taking.specs.Taking.{inSpans, takenMarks}
+use Rattle.taking.proofs.WalkLaws.{stepped}
+use Rattle.taking.proofs.ArmLaws.{still, causeOf, stepped-still, stepped-walk}
+use Rattle.taking.proofs.GoneLaws.{none-gone}
 use Rattle.remove.specs.declared.Instant.{Instant}
-use Rattle.remove.specs.declared.Span.{Span}
-use Rattle.remove.specs.declared.Span.the-variants.{Over, Refused}
-use Rattle.remove.specs.Edges.{boundIn, instantOf, inOrder, spanOf}
+use Rattle.remove.specs.declared.Stretch.{Stretch}
+use Rattle.remove.specs.declared.Stretch.the-variants.{Over, Refused}
+use Rattle.remove.specs.Edges.{boundIn, instantOf, inOrder, stretchOf, FarSpans}
 use Rattle.remove.specs.Loss.{lossOf, settledBy}
-use Rattle.remove.proofs.SpanLaws.{bound-back}
-use Rattle.remove.proofs.LossLaws.{settled-loss}
+use Rattle.remove.proofs.StretchLaws.{bound-back}
+use Rattle.remove.proofs.PlaceLaws.{held, order}
+use Rattle.remove.proofs.EdgeLaws.{removal-marks}
+use Rattle.remove.proofs.LossLaws.{loss-still, no-loss, settled-loss}
 
 -- ---- a removal that is not refused
 
-module _ (s : State) (start : ℤ) (end : Bound) (ms : List Marked) (e : ms ≡ removalMarks start end (stored s)) where
-  pub state-left : wellFormed s ≡ true → settledBy (lossOf (bufferOf s) ms) (holding s (kept ms)) ≡ stateOf (removed start end (bufferOf s) .after)
-  unfolding removed
-  state-left h = rw e (settled-loss s h (kept (removalMarks start end (stored s))) (removalMarks start end (stored s)))
+module _ (h : Head) (ts : List (List ℤ)) (gs : List (List ℕ)) (w : wellFormedAt h ts gs ≡ true) (start : ℤ) (end : Bound) (spans : List Span) (far : FarSpans start end (held h ts gs .frames) spans) where
+  abbrev frames : List Frame
+  frames = held h ts gs .frames
 
-  pub lines-told : linesOf ms ≡ removed start end (bufferOf s) .lines
+  abbrev marks : List Marked
+  marks = takenMarks spans 6 frames
+
+  same : marks ≡ removalMarks start end frames
+  same = removal-marks h ts gs w start end spans far
+
+  -- ---- some frame goes
+
+  pub head-left : settledBy (lossOf (held h ts gs) marks) (length (kept marks)) h ≡ headOf (removed start end (held h ts gs) .after)
   unfolding removed
-  lines-told = ap linesOf e
+  head-left = settled-loss h ts gs w (kept marks) marks ∙ ap (λ (ms : List Marked). headOf (withFrames (afterLoss ms (held h ts gs)) (kept ms))) same
+
+  pub kept-left : kept marks ≡ removed start end (held h ts gs) .after .frames
+  unfolding removed
+  kept-left = ap kept same
+
+  pub lines-told : linesOf marks ≡ removed start end (held h ts gs) .lines
+  unfolding removed
+  lines-told = ap linesOf same
+
+  -- ---- none goes
+
+  pub nothing-goes : allOf (λ (g : Frame). not (inSpans spans g)) frames ≡ true → removed start end (held h ts gs) ≡ record { after = held h ts gs; lines = [] }
+  unfolding removed lossOf stepped
+  nothing-goes none =
+      let b = held h ts gs in
+      let all : marks ≡ map still frames ++ [] =
+      sym (stepped-walk (inSpans spans) 6 frames (order h ts gs w)) ∙ ap (stepped (causeOf (inSpans spans) 6) 0 false) (sym (append-nil frames)) ∙ stepped-still (inSpans spans) 6 frames [] none in
+      let after : afterLoss (removalMarks start end frames) b ≡ b = no-loss (removalMarks start end frames) b (ap (lossOf b) (sym same ∙ all) ∙ loss-still b frames []) in
+      let gone = none-gone (inSpans spans) 6 frames none in
+      λ j. record { after = withFrames (after j) ((ap kept (sym same) ∙ gone .0) j); lines = (ap linesOf (sym same) ∙ gone .1) j }
 
 -- ---- the refusals
 
--- what a span is answered
-abbrev pub overSpan : Buffer → Span → Result Outcome
-overSpan b (Over start end) = done (removed start (boundIn end) b)
-overSpan b (Refused why) = refused why
+-- what a stretch is answered
+abbrev pub overStretch : Buffer → Stretch → Result Outcome
+overStretch b (Over start end) = done (removed start (boundIn end) b)
+overStretch b (Refused why) = refused why
 
 order-tests : (b : Buffer) (t : Bool) (z : ℤ) (i : Instant)
-    → cond t (refused Order) (done (removed z (boundIn i) b)) ≡ overSpan b (cond t (Refused Order) (Over z i))
+    → cond t (refused Order) (done (removed z (boundIn i) b)) ≡ overStretch b (cond t (Refused Order) (Over z i))
 order-tests b true z i = refl
 order-tests b false z i = refl
 
-span-tests : (b : Buffer) (t : Bool) (r : Result Outcome) (p : Span) → r ≡ overSpan b p → cond t (refused Seconds) r ≡ overSpan b (cond t (Refused Seconds) p)
-span-tests b true r p e = refl
-span-tests b false r p e = e
+stretch-tests : (b : Buffer) (t : Bool) (r : Result Outcome) (p : Stretch) → r ≡ overStretch b p → cond t (refused Seconds) r ≡ overStretch b (cond t (Refused Seconds) p)
+stretch-tests b true r p e = refl
+stretch-tests b false r p e = e
 
-module _ (lent : ℕ) (start end : Float) (s : State) where
+module _ (lent : ℕ) (start end : Float) (h : Head) (ts : List (List ℤ)) (gs : List (List ℕ)) where
   abbrev result : Result Outcome
-  result = removeResult lent start end s
+  result = removeResult lent start end h ts gs
 
-  pub ill-formed : wellFormed s ≡ false → result ≡ refused IllFormed
+  pub ill-formed : wellFormedAt h ts gs ≡ false → result ≡ refused IllFormed
   unfolding removeResult
-  ill-formed = ill-formed-refused (remove lent start end) s
+  ill-formed = ill-formed-refused (remove lent start end) h ts gs
 
-  pub short-list : wellFormed s ≡ true → lent < places → result ≡ refused ShortFates
+  pub short-list : wellFormedAt h ts gs ≡ true → lent < places → result ≡ refused ShortFates
   unfolding removeResult remove
-  short-list h k = on-well-formed (remove lent start end) s h ∙ rw (lt-ltb lent places k)
+  short-list w k = on-well-formed (remove lent start end) h ts gs w ∙ rw (lt-ltb lent places k)
 
-  -- with lines enough, the span decides
-  pub by-span : wellFormed s ≡ true → places ≤ lent → result ≡ overSpan (bufferOf s) (spanOf start end)
+  -- with lines enough, the stretch decides
+  pub by-stretch : wellFormedAt h ts gs ≡ true → places ≤ lent → result ≡ overStretch (bufferOf (stateAt h ts gs)) (stretchOf start end)
   unfolding removeResult remove
-  by-span h k =
-      let b = bufferOf s in
+  by-stretch w k =
+      let b = bufferOf (stateAt h ts gs) in
       let z = microsOf start in
       let i = instantOf (boundOf end) in
       let order : Bound → Bool = λ (d : Bound). ltZ z (pos 0) || not (beforeBound z d) in
       let judged = ap (λ (d : Bound). cond (order d) (refused Order) (done (removed z d b))) (sym (bound-back (boundOf end))) ∙ order-tests b (order (boundIn i)) z i in
-      on-well-formed (remove lent start end) s h
-      ∙ rw (le-ltb lent places k) (span-tests b (not (convertible start) || not (convertibleEnd end)) _ (inOrder z i) judged)
+      on-well-formed (remove lent start end) h ts gs w
+      ∙ rw (le-ltb lent places k) (stretch-tests b (not (convertible start) || not (convertibleEnd end)) _ (inOrder z i) judged)

@@ -1,85 +1,90 @@
--- The far edges one frame after another from the back, and the marks that they make.
-use mathlib.Core.Path.{_≡_, refl, ap}
+-- The stretches up to the far edges, one frame after another from the back, and the marks that they make.
+use mathlib.Core.Path.{_≡_, refl, sym, ap, _∙_}
 use mathlib.Core.Bool.{Bool, true, false, cond, _&&_}
-use mathlib.Core.List.{List, [], _∷_, map}
-use Prim.Native.Nat.{ℕ, _+_, _-_, _<_}
+use mathlib.Core.List.{List, [], _∷_}
+use Prim.Native.Nat.{ℕ, _<_}
 use native.Mathlib.Omega.{arith}
 use lib.Dec.{eqb}
 use lib.IntN.{ℤ}
 use lib.ListN.{length, getD, set, replicate, getD-replicate}
 use lib.Seq.{getD-set-same, getD-set-other}
+use lib.Signed.{leZ, ltZ}
 use borrow.Author.Tests.{eqb-true, eqb-false}
 use Rattle.laws.proofs.BoolLaws.{split, and-left, and-right}
-use Rattle.seconds.specs.Seconds.{Bound, at}
+use Rattle.seconds.specs.Seconds.{Bound, unbounded, at}
 use Rattle.buffer_state.specs.declared.Frame.{Frame}
-use Rattle.buffer_state.specs.declared.State.{State}
-use Rattle.buffer_state.specs.Layout.{wellFormed}
-use Rattle.buffer_state.specs.Store.{walk}
-use Rattle.buffer_state.specs.WellFormed.{allOf}
+use Rattle.buffer_state.specs.declared.Head.{Head}
+use Rattle.buffer_state.specs.Lent.{wellFormedAt}
 use Rattle.buffer_state.specs.Remove.{beforeBound, earlierOf, farEdge, removalMarks}
-use Rattle.buffer_laws.proofs.TestLaws.{all-first, all-rest}
-use Rattle.store.specs.Marks.{stored, mark}
-use Rattle.remove.specs.declared.Instant.{Instant}
-use Rattle.remove.specs.Edges.{nowhere, boundIn, instantOf, edgeFor, opensAfter, isNearer, FarEdges, causeTo}
-use Rattle.remove.proofs.PlaceLaws.{laid, each-good, good-on}
+use Rattle.buffer_state.specs.Store.{walk}
+use Rattle.taking.specs.declared.Span.{Span}
+use Rattle.taking.specs.Taking.{noSpan, inSpans, takenMarks}
+use Rattle.taking.proofs.GoneLaws.{marks-same}
+use Rattle.remove.specs.Edges.{beyond, edgeTime, upTo, opensAfter, isNearer, FarSpans}
+use Rattle.remove.proofs.PlaceLaws.{held, isGood, each-good, good-inside, good-shown}
 
--- ---- the edges
+-- the time that stands for an edge is as good as the edge
+before-edge : (z : ℤ) → ltZ z beyond ≡ true → (b : Bound) → ltZ z (edgeTime b) ≡ beforeBound z b
+before-edge z h unbounded = h
+before-edge z h (at e) = refl
 
-module _ (e : Bound) where
-  -- of no frames there is none
-  pub edges-none : (x : Instant) → x ≡ nowhere → FarEdges e [] (replicate 4 x)
+module _ (s : ℤ) (e : Bound) where
+  -- ---- the stretches
+
+  -- of no frames there is no edge
+  pub spans-none : (x : Span) → x .start ≡ s → x .end ≡ beyond → FarSpans s e [] (replicate 5 x)
   unfolding farEdge
-  edges-none x d track from to = rw (getD-replicate 4 (track - 1) x nowhere (omega arith), d)
+  spans-none x p q track to = getD-replicate 5 track x noSpan to ∙ (λ i. record { start = p i; end = q i })
 
   -- one frame more in front, which is a nearer edge or is not
-  module _ (es : List Instant) (fs : List Frame) (f : Frame) (k : ℕ) (p : (k + 1 ≡ f .track) × (k < 4)) (far : FarEdges e fs es) where
+  module _ (spans : List Span) (fs : List Frame) (f : Frame) (on : f .track < 5) (shown : ltZ (f .pts) beyond ≡ true) (far : FarSpans s e fs spans) where
     abbrev nearer : Bool
-    nearer = isNearer f e (boundIn (getD es k nowhere))
+    nearer = isNearer f e (getD spans (f .track) noSpan .end)
 
-    pub edges-nearer : length es ≡ 4 → nearer ≡ true → (x : Instant) → x ≡ instantOf (at (f .pts)) → FarEdges e (f ∷ fs) (set es k x)
+    -- before the time held is before the edge
+    before-held : ltZ (f .pts) (getD spans (f .track) noSpan .end) ≡ beforeBound (f .pts) (farEdge (f .track) e fs)
+    before-held = ap (λ (x : Span). ltZ (f .pts) (x .end)) (far (f .track) on) ∙ before-edge (f .pts) shown (farEdge (f .track) e fs)
+
+    pub spans-nearer : length spans ≡ 5 → nearer ≡ true → (x : Span) → x ≡ upTo s (at (f .pts)) → FarSpans s e (f ∷ fs) (set spans (f .track) x)
     unfolding farEdge
-    edges-nearer l n x d track from to =
+    spans-nearer l n x d track to =
         split (eqb (f .track) track)
         (λ t.
         let same : f .track ≡ track = eqb-true (f .track) track t in
-        let here : k ≡ track - 1 = omega arith in
         let late : opensAfter e f ≡ true = and-left _ _ n in
-        let early : beforeBound (f .pts) (boundIn (getD es k nowhere)) ≡ true = and-right (opensAfter e f) _ n in
-        rw (t, ← far track from to, ← here, getD-set-same es k x nowhere (omega arith), late, early) (ap boundIn d))
+        let early : beforeBound (f .pts) (farEdge track e fs) ≡ true =
+        ap (λ (u : ℕ). beforeBound (f .pts) (farEdge u e fs)) (sym same) ∙ sym before-held ∙ and-right (opensAfter e f) _ n in
+        rw (t, late, early) (ap (λ (u : ℕ). getD (set spans u x) track noSpan) same ∙ getD-set-same spans track x noSpan (omega arith) ∙ d))
         (λ t.
-        let other : track - 1 ≡ k → ⊥ = λ q. eqb-false (f .track) track t (omega arith) in
-        rw (t, getD-set-other es k (track - 1) x nowhere other) (far track from to))
+        let other : track ≡ f .track → ⊥ = λ q. eqb-false (f .track) track t (sym q) in
+        rw t (getD-set-other spans (f .track) track x noSpan other ∙ far track to))
 
-    pub edges-same : nearer ≡ false → FarEdges e (f ∷ fs) es
+    pub spans-same : nearer ≡ false → FarSpans s e (f ∷ fs) spans
     unfolding farEdge
-    edges-same n track from to =
+    spans-same n track to =
         split (eqb (f .track) track)
         (λ t.
         let same : f .track ≡ track = eqb-true (f .track) track t in
-        let here : k ≡ track - 1 = omega arith in
-        rw (t, ← far track from to, ← here) (stays (opensAfter e f) (f .pts) (boundIn (getD es k nowhere)) n))
-        (λ t. rw t (far track from to))
+        let stay : (opensAfter e f && beforeBound (f .pts) (farEdge track e fs)) ≡ false =
+        ap (λ (u : ℕ). opensAfter e f && beforeBound (f .pts) (farEdge u e fs)) (sym same) ∙ ap (λ (b : Bool). opensAfter e f && b) (sym before-held) ∙ n in
+        rw t (far track to ∙ ap (upTo s) (stays (opensAfter e f) (f .pts) (farEdge track e fs) stay)))
+        (λ t. rw t (far track to))
       where
         stays : (t : Bool) (z : ℤ) (b : Bound) → (t && beforeBound z b) ≡ false → b ≡ cond t (earlierOf z b) b
         stays true z b q = rw q
         stays false z b q = refl
 
--- ---- the causes
+-- ---- the marks
 
-map-same : {A B : Type 0} (p : A → Bool) (f g : A → B) → ((x : A) → p x ≡ true → f x ≡ g x) → (l : List A) → allOf p l ≡ true → map f l ≡ map g l
-map-same p f g h [] e = refl
-map-same p f g h (x ∷ xs) e =
-    let first = h x (all-first p x xs e) in
-    let rest = map-same p f g h xs (all-rest p x xs e) in
-    λ i. first i ∷ rest i
-
--- the causes up to the edges held are those up to the far edges
-pub removal-marks : (s : State) → wellFormed s ≡ true → (start : ℤ) (end : Bound) (es : List Instant) → FarEdges end (stored s) es
-    → walk (map (λ (f : Frame). mark f (causeTo start (edgeFor es (f .track)) f)) (stored s)) ≡ removalMarks start end (stored s)
+-- the frames in the stretches held are those from the start up to the far edges
+pub removal-marks : (h : Head) (ts : List (List ℤ)) (gs : List (List ℕ)) (w : wellFormedAt h ts gs ≡ true) (s : ℤ) (e : Bound) (spans : List Span)
+    → FarSpans s e (held h ts gs .frames) spans → takenMarks spans 6 (held h ts gs .frames) ≡ removalMarks s e (held h ts gs .frames)
 unfolding removalMarks
-removal-marks s h start end es far =
-    let fs = stored s in
+removal-marks h ts gs w s e spans far =
+    let fs = held h ts gs .frames in
     ap walk
-    (map-same _ (λ (f : Frame). mark f (causeTo start (edgeFor es (f .track)) f)) (λ (f : Frame). mark f (causeTo start (farEdge (f .track) end fs) f))
-    (λ f g. let on = good-on s h f g in ap (λ (b : Bound). mark f (causeTo start b f)) (far (f .track) (on .0) (omega (arith, on .1, laid s h .ntracks))))
-    fs (each-good s h))
+    (marks-same (isGood h ts gs w) (inSpans spans) (λ (f : Frame). leZ s (f .pts) && beforeBound (f .pts) (farEdge (f .track) e fs))
+    (λ f g.
+    ap (λ (x : Span). leZ (x .start) (f .pts) && ltZ (f .pts) (x .end)) (far (f .track) (good-inside h ts gs w f g))
+    ∙ ap (λ (b : Bool). leZ s (f .pts) && b) (before-edge (f .pts) (good-shown h ts gs w f g) (farEdge (f .track) e fs)))
+    6 fs (each-good h ts gs w))

@@ -1,4 +1,4 @@
-pub mod SpanLaws
+pub mod StretchLaws
 pub mod PlaceLaws
 pub mod EdgeLaws
 pub mod LossLaws

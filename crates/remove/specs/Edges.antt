@@ -1,20 +1,21 @@
--- A removal in the words of the code: instants that are set or not, the far edges of the four tracks in one array, and the causes.
+-- A removal in the words of the code: instants that are set or not, and the stretches up to the far edges of all tracks in one array.
 use mathlib.Core.Bool.{Bool, true, false, cond, not, _&&_, _||_}
 use mathlib.Core.List.{List}
 use mathlib.Core.Path.{_≡_}
-use Prim.Native.Nat.{ℕ, _-_, _≤_}
+use Prim.Native.Nat.{ℕ, _<_}
 use lib.IntN.{ℤ, pos}
 use lib.Ieee.{Float}
 use lib.ListN.{getD}
-use lib.Signed.{ltZ, leZ}
+use lib.Signed.{ltZ}
 use Rattle.seconds.specs.Seconds.{Bound, unbounded, at, convertible, convertibleEnd, microsOf, boundOf}
 use Rattle.buffer_state.specs.declared.Frame.{Frame}
 use Rattle.buffer_state.specs.declared.Refusal.the-variants.{Seconds, Order}
-use Rattle.buffer_state.specs.Limits.{mostTracks}
 use Rattle.buffer_state.specs.Remove.{beforeBound, farEdge}
+use Rattle.taking.specs.declared.Span.{Span}
+use Rattle.taking.specs.Taking.{noSpan}
 use Rattle.remove.specs.declared.Instant.{Instant}
-use Rattle.remove.specs.declared.Span.{Span}
-use Rattle.remove.specs.declared.Span.the-variants.{Over, Refused}
+use Rattle.remove.specs.declared.Stretch.{Stretch}
+use Rattle.remove.specs.declared.Stretch.the-variants.{Over, Refused}
 
 -- ---- bounds
 
@@ -34,31 +35,35 @@ instantOf (at z) = record { set = true; micros = z }
 -- ---- the stretch of time
 
 -- refusal 6, or the start and the end
-abbrev pub inOrder : ℤ → Instant → Span
+abbrev pub inOrder : ℤ → Instant → Stretch
 inOrder s e = cond (ltZ s (pos 0) || not (beforeBound s (boundIn e))) (Refused Order) (Over s e)
 
 -- refusal 5 of either time, then by the order
-abbrev pub spanOf : Float → Float → Span
-spanOf start end = cond (not (convertible start) || not (convertibleEnd end)) (Refused Seconds) (inOrder (microsOf start) (instantOf (boundOf end)))
+abbrev pub stretchOf : Float → Float → Stretch
+stretchOf start end = cond (not (convertible start) || not (convertibleEnd end)) (Refused Seconds) (inOrder (microsOf start) (instantOf (boundOf end)))
 
 -- ---- far edges
 
--- the edge that the array holds for a track
-abbrev pub edgeFor : List Instant → ℕ → Bound
-edgeFor es track = boundIn (getD es (track - 1) nowhere)
+-- past every presentation time of a well-formed state
+abbrev pub beyond : ℤ
+beyond = pos 4000000000001
 
--- the array holds each track's far edge
-abbrev pub FarEdges : Bound → List Frame → List Instant → Type 0
-FarEdges e fs es = (track : ℕ) → 1 ≤ track → track ≤ mostTracks → edgeFor es track ≡ farEdge track e fs
+-- from the start up to an edge, or past every time where there is none
+abbrev pub edgeTime : Bound → ℤ
+edgeTime unbounded = beyond
+edgeTime (at z) = z
+
+abbrev pub upTo : ℤ → Bound → Span
+upTo s edge = record { start = s; end = edgeTime edge }
+
+-- the array holds each track's stretch, up to its far edge
+abbrev pub FarSpans : ℤ → Bound → List Frame → List Span → Type 0
+FarSpans s e fs spans = (track : ℕ) → track < 5 → getD spans track noSpan ≡ upTo s (farEdge track e fs)
 
 -- a flagged frame at or after the end
 abbrev pub opensAfter : Bound → Frame → Bool
 opensAfter e f = f .flagged && not (beforeBound (f .pts) e)
 
 -- such a frame in front of an edge is a nearer one, if it is earlier
-abbrev pub isNearer : Frame → Bound → Bound → Bool
-isNearer f e edge = opensAfter e f && beforeBound (f .pts) edge
-
--- the cause of a frame from the start up to an edge
-abbrev pub causeTo : ℤ → Bound → Frame → ℕ
-causeTo s edge f = cond (leZ s (f .pts) && beforeBound (f .pts) edge) 6 0
+abbrev pub isNearer : Frame → Bound → ℤ → Bool
+isNearer f e edge = opensAfter e f && ltZ (f .pts) edge

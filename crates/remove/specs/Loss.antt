@@ -1,9 +1,10 @@
--- The rule on the last decode time in the words of the code: where the first frame that ends its track was shown, and the state after it.
+-- The rule on the last decode time in the words of the code: where the first frame that ends its track was shown, and the head after it.
 use mathlib.Core.Bool.{Bool, cond, _&&_}
 use mathlib.Core.List.{List, [], _∷_, _++_}
+use Prim.Native.Nat.{ℕ}
 use lib.ListN.{take, drop}
 use Rattle.seconds.specs.Seconds.{Bound, unbounded, at, sameInt}
-use Rattle.buffer_state.specs.declared.State.{State}
+use Rattle.buffer_state.specs.declared.Head.{Head}
 use Rattle.buffer_state.specs.declared.Track.{Track}
 use Rattle.buffer_state.specs.Buffer.{Buffer, trackOf, restartAll, isSequence, startAtEnd, withEnd}
 use Rattle.buffer_state.specs.Store.{Marked, isTaken}
@@ -17,16 +18,23 @@ unfoldable pub lossOf : Buffer → List Marked → Bound
 lossOf b [] = unbounded
 lossOf b (m ∷ ms) = let rest = lossOf b ms in cond (endsOn (trackOf b (m .frame .track)) m) (at (m .frame .pts)) rest
 
--- the state after such a loss: regrouped there, every track begun again
-abbrev pub settledBy : Bound → State → State
-settledBy unbounded s = s
-settledBy (at p) s = record {
-  frames = s .frames;
-  nframes = s .nframes;
-  tracks = restartAll (take (s .ntracks) (s .tracks)) ++ drop (s .ntracks) (s .tracks);
-  ntracks = s .ntracks;
-  mode = s .mode;
-  group = cond (isSequence (s .mode)) (startAtEnd (s .group)) (withEnd (s .group) p);
-  last = s .last;
-  settings = s .settings;
+-- the head after such a loss: regrouped there, every track begun again
+abbrev pub settledBy : Bound → ℕ → Head → Head
+settledBy unbounded left h = record {
+  tracks = h .tracks;
+  ntracks = h .ntracks;
+  nframes = left;
+  mode = h .mode;
+  group = h .group;
+  last = h .last;
+  settings = h .settings;
+}
+settledBy (at p) left h = record {
+  tracks = restartAll (take (h .ntracks) (h .tracks)) ++ drop (h .ntracks) (h .tracks);
+  ntracks = h .ntracks;
+  nframes = left;
+  mode = h .mode;
+  group = cond (isSequence (h .mode)) (startAtEnd (h .group)) (withEnd (h .group) p);
+  last = h .last;
+  settings = h .settings;
 }

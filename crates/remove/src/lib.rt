@@ -1,30 +1,34 @@
 // Removing a stretch of time: document 01, "Removing, aborting, setting". Any state and any times may be handed in.
 ghost use mathlib.Core.Path.{_≡_};
-ghost use mathlib.Core.Bool.{true};
-ghost use mathlib.Core.List.{map};
+ghost use mathlib.Core.Bool.{true, not, _&&_};
 ghost use Prim.Native.Nat.{_+_, _≤_, _<_};
-ghost use lib.ListN.{length};
-ghost use lib.Signed.{leZ};
-ghost use Rattle.seconds.specs.Seconds.{at};
-ghost use Rattle.buffer_state.specs.Answers.{counted, listAfter, removeResult};
-ghost use Rattle.buffer_state.specs.Layout.{bufferOf, wellFormed};
-ghost use Rattle.buffer_state.specs.Refusals.{done};
-ghost use Rattle.buffer_state.specs.Remove.{beforeBound, removalMarks, removed};
-ghost use Rattle.buffer_state.specs.Store.{walk};
-ghost use Rattle.store.specs.Marks.{stored, mark, markedBy};
-ghost use Rattle.remove.specs.Edges.{boundIn, instantOf, nowhere, inOrder, spanOf, edgeFor, opensAfter, isNearer, FarEdges, causeTo};
-ghost use Rattle.remove.specs.Loss.{endsOn, lossOf, settledBy};
+ghost use lib.ListN.{length, take};
+ghost use Rattle.seconds.specs.Seconds.{at, sameInt};
+ghost use Rattle.buffer_state.specs.declared.Frame.{Frame};
+ghost use Rattle.buffer_state.specs.Answers.{counted, timesAfter, tagsAfter, listAfter, removeResult};
+ghost use Rattle.buffer_state.specs.Layout.{bufferOf};
+ghost use Rattle.buffer_state.specs.Lent.{framesOf, stateAt, wellFormedAt};
+ghost use Rattle.buffer_state.specs.Refusals.{refused, done};
+ghost use Rattle.buffer_state.specs.Remove.{beforeBound, removed};
+ghost use Rattle.buffer_state.specs.WellFormed.{allOf};
+ghost use Rattle.taking.specs.Taking.{inSpans, takenMarks};
+ghost use Rattle.remove.specs.Edges.{boundIn, instantOf, nowhere, inOrder, stretchOf, beyond, upTo, opensAfter, isNearer, FarSpans};
+ghost use Rattle.remove.specs.Loss.{lossOf, settledBy};
+use buffer_state::Count;
 use buffer_state::Counted;
 use buffer_state::Frame;
+use buffer_state::Head;
 use buffer_state::Refusal;
-use buffer_state::State;
 use buffer_state::Track;
 use seconds::EndMicros;
 use seconds::Micros;
+use taking::Span;
+
+const BEYOND: i64 = 4000000000001; // past every presentation time
 
 // ---- instants
 
-// An instant in microseconds, or none, which is kept as zero: the end of a removal, a far edge, a loss.
+// An instant in microseconds, or none, which is kept as zero: the end of a removal, a loss.
 struct Instant {
     set: bool,
     micros: i64,
@@ -55,55 +59,47 @@ fn is_before(z: i64, e: Instant) -> bool
     if !e.set {
         return true;
     }
-    validation::below(z, e.micros)
+    limits::below(z, e.micros)
 }
 
 // ---- the stretch of time
 
 // The start and the end of a removal, or why there is none.
-enum Span {
+enum Stretch {
     Over(i64, Instant),
     Refused(Refusal),
 }
 
 // Refusal 6: the start is under 0, or the end is not above it.
-fn in_order(start: i64, end: Instant) -> Span
+fn in_order(start: i64, end: Instant) -> Stretch
     ensures { λ r. ⌜ r ≡ inOrder start end ⌝ }
 {
-    if validation::below(start, 0) {
-        return Span::Refused(Refusal::Order);
+    if limits::below(start, 0) {
+        return Stretch::Refused(Refusal::Order);
     }
     if !is_before(start, end) {
-        return Span::Refused(Refusal::Order);
+        return Stretch::Refused(Refusal::Order);
     }
-    Span::Over(start, end)
+    Stretch::Over(start, end)
 }
 
 // Refusal 5 of either time, then refusal 6.
-fn span_of(start: f64, end: f64) -> Span
-    ensures { λ r. ⌜ r ≡ spanOf start end ⌝ }
+fn stretch_of(start: f64, end: f64) -> Stretch
+    ensures { λ r. ⌜ r ≡ stretchOf start end ⌝ }
 {
     let m = seconds::micros_of(start);
     let Micros::At(z) = m else {
-        return Span::Refused(Refusal::Seconds);
+        return Stretch::Refused(Refusal::Seconds);
     };
     let e = seconds::end_micros(end);
     match e {
         EndMicros::Unbounded => in_order(z, never()),
         EndMicros::At(y) => in_order(z, instant_at(y)),
-        EndMicros::Refused => Span::Refused(Refusal::Seconds),
+        EndMicros::Refused => Stretch::Refused(Refusal::Seconds),
     }
 }
 
 // ---- a frame
-
-// The place of a frame's track among the four.
-fn place(f: Frame) -> usize
-    requires { ⌜ (1 ≤ f .track) × (f .track ≤ 4) ⌝ }
-    ensures { λ r. ⌜ (r + 1 ≡ f .track) × (r < 4) ⌝ }
-{
-    f.track as usize - 1
-}
 
 fn shown_at(f: Frame) -> Instant
     ensures { λ r. ⌜ r ≡ instantOf (at (f .pts)) ⌝ }
@@ -120,13 +116,27 @@ fn shown_before(f: Frame, e: Instant) -> bool
     is_before(f.pts, e)
 }
 
-fn shown_from(f: Frame, start: i64) -> bool
-    ensures { λ r. ⌜ r ≡ leZ start (f .pts) ⌝ }
+// ---- the far edges
+
+// The stretch that a track loses where it has no far edge.
+fn open_from(start: i64) -> Span
+    ensures { λ r. ⌜ (r .start ≡ start) × (r .end ≡ beyond) ⌝ }
 {
-    start <= f.pts
+    Span {
+        start: start,
+        end: BEYOND,
+    }
 }
 
-// ---- the far edges
+// The same up to a frame.
+fn up_to(s: Span, f: Frame) -> Span
+    ensures { λ r. ⌜ r ≡ upTo (s .start) (at (f .pts)) ⌝ }
+{
+    Span {
+        start: s.start,
+        end: f.pts,
+    }
+}
 
 // A flagged frame at or after the end.
 fn opens(f: Frame, end: Instant) -> bool
@@ -136,161 +146,171 @@ fn opens(f: Frame, end: Instant) -> bool
     f.flagged & late
 }
 
-// Whether a frame is a nearer edge: it opens after the end, and is earlier.
-fn is_nearer(f: Frame, end: Instant, edge: Instant) -> bool
-    ensures { λ r. ⌜ r ≡ isNearer f (boundIn end) (boundIn edge) ⌝ }
+// Whether a frame is a nearer edge: it opens after the end, and is earlier than the stretch's.
+fn is_nearer(f: Frame, end: Instant, s: Span) -> bool
+    ensures { λ r. ⌜ r ≡ isNearer f (boundIn end) (s .end) ⌝ }
 {
-    opens(f, end) & shown_before(f, edge)
+    opens(f, end) & limits::below(f.pts, s.end)
 }
 
-// The far edges of all tracks, in one pass from the back.
-fn far_edges(s: State, end: Instant) -> [Instant; 4]
-    requires { ⌜ wellFormed s ≡ true ⌝ }
-    ensures { λ r. ⌜ FarEdges (boundIn end) (stored s) r ⌝ }
+// The stretches of all tracks, from the start up to their far edges, in one pass from the back. The flag is tested by itself, so that
+// the array is read and written for the few frames that have it.
+fn far_spans(h: Head, whole: Span, end: Instant, times: &[[i64; 2]], tags: &[[u32; 4]]) -> [Span; 5]
+    requires { ⌜ (wellFormedAt h (now times) (now tags) ≡ true) × (whole .end ≡ beyond) ⌝ }
+    ensures { λ r. ⌜ FarSpans (whole .start) (boundIn end) (take (h .nframes) (framesOf (now (times .entry)) (now (tags .entry)))) r ⌝ }
 {
-    let none = never();
-    let mut edges = [none; 4];
-    let mut i = s.nframes;
+    let mut spans = [whole; 5];
+    let mut i = h.nframes;
     while 0 < i {
         let j = i - 1;
-        let f = s.frames[j];
-        let k = place(f);
-        let edge = edges[k];
-        if is_nearer(f, end, edge) {
-            edges[k] = shown_at(f);
-            i = j;
+        let f = places::frame_at(times, tags, j);
+        if f.flagged {
+            let k = f.track as usize;
+            let s = spans[k];
+            if is_nearer(f, end, s) {
+                spans[k] = up_to(s, f);
+                i = j;
+            } else {
+                i = j;
+            }
         } else {
             i = j;
         }
     }
-    edges
-}
-
-// ---- the causes
-
-fn cause_to(f: Frame, start: i64, edge: Instant) -> u8
-    ensures { λ r. ⌜ r ≡ causeTo start (boundIn edge) f ⌝ }
-{
-    if shown_from(f, start) & shown_before(f, edge) {
-        return 6;
-    }
-    0
-}
-
-// Cause 6 for the frames from the start up to the edge of their track, and the walk on from them, in one pass.
-fn causes_to(s: State, start: i64, edges: [Instant; 4]) -> [u8; 1024]
-    requires { ⌜ wellFormed s ≡ true ⌝ }
-    ensures { λ r. ⌜ markedBy (stored s) r ≡ walk (map (λ f. mark f (causeTo start (edgeFor edges (f .track)) f)) (stored s)) ⌝ }
-{
-    let n = s.nframes;
-    let mut causes = [0u8; 1024];
-    let mut track: u8 = 0;
-    let mut follows = false;
-    let mut i: usize = 0;
-    while i < n {
-        let f = s.frames[i];
-        let k = place(f);
-        let edge = edges[k];
-        let mark = cause_to(f, start, edge);
-        let cause = store::walked(f, mark, track, follows);
-        causes[i] = cause;
-        track = f.track;
-        follows = cause != 0;
-        i += 1;
-    }
-    causes
-}
-
-// The causes by which a removal takes the stored frames.
-fn causes(s: State, start: i64, end: Instant) -> [u8; 1024]
-    requires { ⌜ wellFormed s ≡ true ⌝ }
-    ensures { λ r. ⌜ markedBy (stored s) r ≡ removalMarks start (boundIn end) (stored s) ⌝ }
-{
-    let edges = far_edges(s, end);
-    causes_to(s, start, edges)
+    spans
 }
 
 // ---- the rule on the last decode time
 
-// Whether a frame with this cause is lost and has its track's last decode time.
-fn ends_track(f: Frame, t: Track, cause: u8) -> bool
-    ensures { λ r. ⌜ r ≡ endsOn t (mark f cause) ⌝ }
+// The place of a frame's track among the four.
+fn place(f: Frame) -> usize
+    requires { ⌜ (1 ≤ f .track) × (f .track ≤ 4) ⌝ }
+    ensures { λ r. ⌜ (r + 1 ≡ f .track) × (r < 4) ⌝ }
 {
-    (cause != 0) & (t.known & validation::same_int(f.dts, t.dts))
+    f.track as usize - 1
 }
 
-// Where the first taken frame that ends its track was shown.
-fn loss(s: State, causes: [u8; 1024]) -> Instant
-    requires { ⌜ wellFormed s ≡ true ⌝ }
-    ensures { λ r. ⌜ boundIn r ≡ lossOf (bufferOf s) (markedBy (stored s) causes) ⌝ }
+// Whether a frame has its track's last decode time.
+fn ends_track(f: Frame, t: Track) -> bool
+    ensures { λ r. ⌜ r ≡ (t .known && sameInt (f .dts) (t .dts)) ⌝ }
 {
-    let n = s.nframes;
-    let mut i: usize = 0;
+    t.known & limits::same_int(f.dts, t.dts)
+}
+
+// Where the first frame that goes and ends its track was shown. The walk is that of taking::take_out, before anything is written.
+fn loss(h: Head, first: usize, spans: [Span; 5], times: &[[i64; 2]], tags: &[[u32; 4]]) -> Instant
+    requires { ⌜ (wellFormedAt h (now times) (now tags) ≡ true) × (first ≤ h .nframes) × (allOf (λ (g : Frame). not (inSpans spans g)) (take first (take (h .nframes) (framesOf (now times) (now tags)))) ≡ true) ⌝ }
+    ensures { λ r. ⌜ boundIn r ≡ lossOf (bufferOf (stateAt h (now (times .entry)) (now (tags .entry)))) (takenMarks spans 6 (take (h .nframes) (framesOf (now (times .entry)) (now (tags .entry))))) ⌝ }
+{
+    let n = h.nframes;
+    let mut track: u32 = 0;
+    let mut follows = false;
+    let mut i = first;
     while i < n {
-        let f = s.frames[i];
-        let k = place(f);
-        let t = s.tracks[k];
-        if ends_track(f, t, causes[i]) {
-            return shown_at(f);
+        let f = places::frame_at(times, tags, i);
+        let k = f.track as usize;
+        let s = spans[k];
+        let inside = taking::in_span(s, f);
+        if inside | follows {
+            if inside | (!f.flagged & (f.track == track)) {
+                let p = place(f);
+                let t = h.tracks[p];
+                if ends_track(f, t) {
+                    return shown_at(f);
+                }
+                track = f.track;
+                follows = true;
+                i += 1;
+            } else {
+                follows = false;
+                i += 1;
+            }
+        } else {
+            i += 1;
         }
-        i += 1;
     }
     never()
 }
 
-// The state after such a loss: regrouped there, every track begun again.
-fn settled(s: State, first: Instant) -> State
-    requires { ⌜ s .ntracks ≤ 4 ⌝ }
-    ensures { λ r. ⌜ r ≡ settledBy (boundIn first) s ⌝ }
+// The head with so many frames left, after such a loss: regrouped there, every track begun again.
+fn settled(h: Head, left: usize, first: Instant) -> Head
+    requires { ⌜ h .ntracks ≤ 4 ⌝ }
+    ensures { λ r. ⌜ r ≡ settledBy (boundIn first) left h ⌝ }
 {
     if !first.set {
-        return s;
+        return Head { nframes: left, ..h };
     }
-    let old = s.tracks;
-    let n = s.ntracks;
+    let old = h.tracks;
+    let n = h.ntracks;
     let restarted = tracks::restart_all(old, n);
-    let mode = s.mode;
-    let g = tracks::regroup(mode, s.group, first.micros);
-    State {
+    let mode = h.mode;
+    let g = tracks::regroup(mode, h.group, first.micros);
+    Head {
         tracks: restarted,
+        nframes: left,
         group: g,
-        ..s
+        ..h
     }
 }
 
 // ---- the call
 
-// A removal that is not refused.
-fn take_out(s: State, start: i64, end: Instant, fates: &mut [[u32; 2]]) -> Counted
-    requires { ⌜ (wellFormed s ≡ true) × (1024 ≤ length (now fates)) ⌝ }
-    ensures answer { λ r. ⌜ r ≡ counted s (done (removed start (boundIn end) (bufferOf s))) ⌝ }
-    ensures lines { λ r. ⌜ now (fates .exit) ≡ listAfter (done (removed start (boundIn end) (bufferOf s))) (now (fates .entry)) ⌝ }
+// A removal that is not refused: where no frame is in its track's stretch, nothing changes.
+fn remove_over(
+    h: Head,
+    start: i64,
+    end: Instant,
+    times: &mut [[i64; 2]],
+    tags: &mut [[u32; 4]],
+    fates: &mut [[u32; 2]],
+) -> Counted
+    requires { ⌜ (wellFormedAt h (now times) (now tags) ≡ true) × (1024 ≤ length (now fates)) ⌝ }
+    ensures answer { λ r. ⌜ r ≡ counted h (done (removed start (boundIn end) (bufferOf (stateAt h (now (times .entry)) (now (tags .entry)))))) ⌝ }
+    ensures times { λ r. ⌜ now (times .exit) ≡ timesAfter (done (removed start (boundIn end) (bufferOf (stateAt h (now (times .entry)) (now (tags .entry)))))) (now (times .entry)) ⌝ }
+    ensures tags { λ r. ⌜ now (tags .exit) ≡ tagsAfter (done (removed start (boundIn end) (bufferOf (stateAt h (now (times .entry)) (now (tags .entry)))))) (now (tags .entry)) ⌝ }
+    ensures lines { λ r. ⌜ now (fates .exit) ≡ listAfter (done (removed start (boundIn end) (bufferOf (stateAt h (now (times .entry)) (now (tags .entry)))))) (now (fates .entry)) ⌝ }
 {
-    let marks = causes(s, start, end);
-    let first = loss(s, marks);
-    let out = store::take_marked(s, marks, fates);
-    let answer = out.answer;
-    let left = out.state;
+    let n = h.nframes;
+    let whole = open_from(start);
+    let spans = far_spans(h, whole, end, times, tags);
+    let first = taking::first_in(times, tags, n, spans);
+    if first == n {
+        return Counted {
+            answer: Count::Done(0),
+            head: h,
+        };
+    }
+    let lost = loss(h, first, spans, times, tags);
+    let out = taking::take_out(times, tags, n, first, spans, 6, fates);
     Counted {
-        answer: answer,
-        state: settled(left, first),
+        answer: Count::Done(out.lines),
+        head: settled(h, out.left, lost),
     }
 }
 
 // Remove from one time in seconds to another: refusals 1, 2, 5, 6 in that order.
-pub fn remove(s: State, start: f64, end: f64, fates: &mut [[u32; 2]]) -> Counted
-    ensures answer { λ r. ⌜ r ≡ counted s (removeResult (length (now (fates .entry))) start end s) ⌝ }
-    ensures lines { λ r. ⌜ now (fates .exit) ≡ listAfter (removeResult (length (now (fates .entry))) start end s) (now (fates .entry)) ⌝ }
+pub fn remove(
+    h: Head,
+    start: f64,
+    end: f64,
+    times: &mut [[i64; 2]; 1024],
+    tags: &mut [[u32; 4]; 1024],
+    fates: &mut [[u32; 2]],
+) -> Counted
+    ensures answer { λ r. ⌜ r ≡ counted h (removeResult (length (now (fates .entry))) start end h (now (times .entry)) (now (tags .entry))) ⌝ }
+    ensures times { λ r. ⌜ now (times .exit) ≡ timesAfter (removeResult (length (now (fates .entry))) start end h (now (times .entry)) (now (tags .entry))) (now (times .entry)) ⌝ }
+    ensures tags { λ r. ⌜ now (tags .exit) ≡ tagsAfter (removeResult (length (now (fates .entry))) start end h (now (times .entry)) (now (tags .entry))) (now (tags .entry)) ⌝ }
+    ensures lines { λ r. ⌜ now (fates .exit) ≡ listAfter (removeResult (length (now (fates .entry))) start end h (now (times .entry)) (now (tags .entry))) (now (fates .entry)) ⌝ }
 {
-    if !validation::well_formed(s) {
-        return store::refuse(s, Refusal::IllFormed);
+    if !validation::well_formed(h, times, tags) {
+        return buffer_state::refuse(h, Refusal::IllFormed);
     }
     if fates.len() < 1024 {
-        return store::refuse(s, Refusal::ShortFates);
+        return buffer_state::refuse(h, Refusal::ShortFates);
     }
-    let times = span_of(start, end);
-    match times {
-        Span::Over(from, to) => take_out(s, from, to, fates),
-        Span::Refused(why) => store::refuse(s, why),
+    let stretch = stretch_of(start, end);
+    match stretch {
+        Stretch::Over(from, to) => remove_over(h, from, to, times, tags, fates),
+        Stretch::Refused(why) => buffer_state::refuse(h, why),
     }
 }

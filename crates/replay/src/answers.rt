@@ -1,10 +1,12 @@
 // What the answer lines say.
+ghost use mathlib.Core.Path.{_≡_};
+ghost use lib.ListN.{length};
 use buffer_state::Frame;
 use buffer_state::Group;
+use buffer_state::Head;
 use buffer_state::Mode;
 use buffer_state::Setting;
 use buffer_state::Settings;
-use buffer_state::State;
 use buffer_state::Track;
 use buffer_state::WindowEnd;
 
@@ -142,45 +144,46 @@ fn frame(f: Frame) {
     flag(f.flagged);
 }
 
-fn frames(frames: [Frame; 1024], n: usize) {
+fn frames(times: &[[i64; 2]], tags: &[[u32; 4]], n: usize)
+    requires { ⌜ (length (now times) ≡ 1024) × (length (now tags) ≡ 1024) ⌝ }
+{
     for i in 0..n {
         if i < 1024 {
-            frame(frames[i]);
+            frame(places::frame_at(times, tags, i));
         }
     }
 }
 
 // A poked count may say more places than there are.
-fn places(n: usize) -> usize {
+fn stored(n: usize) -> usize {
     if n < 1024 {
         return n;
     }
     1024
 }
 
-pub fn state(s: State) {
-    let n = s.ntracks;
-    let ts = s.tracks;
+pub fn state(h: Head, times: &[[i64; 2]; 1024], tags: &[[u32; 4]; 1024]) {
+    let n = h.ntracks;
+    let ts = h.tracks;
     text::put(b"ok state tracks=");
     kind(ts[0], 0, n);
     kind(ts[1], 1, n);
     kind(ts[2], 2, n);
     kind(ts[3], 3, n);
     text::put(b" last=");
-    text::small(s.last);
-    let m = s.mode;
+    text::small(h.last);
+    let m = h.mode;
     mode(m);
-    let g = s.group;
+    let g = h.group;
     group(g);
-    let k = s.settings;
+    let k = h.settings;
     kept(k);
     track(ts[0], 0, n);
     track(ts[1], 1, n);
     track(ts[2], 2, n);
     track(ts[3], 3, n);
     text::put(b" frames=");
-    text::number(s.nframes as u64);
-    let fs = s.frames;
-    frames(fs, places(s.nframes));
+    text::number(h.nframes as u64);
+    frames(times, tags, stored(h.nframes));
     text::put(b"\n");
 }

@@ -8,7 +8,7 @@ mod input;
 mod marks;
 
 use buffer_state::Answer;
-use buffer_state::State;
+use buffer_state::Head;
 use call_rows::Step;
 use calls::Call;
 use calls::Parsed;
@@ -70,19 +70,28 @@ fn told(kind: u32, step: Step, fates: &[[u32; 2]], list: &[[i64; 2]]) {
 }
 
 // The call itself, lent the first places of the lists.
-fn made(state: State, c: Call, fates: &mut [[u32; 2]], list: &mut [[i64; 2]]) -> Step
+fn made(
+    head: Head,
+    c: Call,
+    times: &mut [[i64; 2]; 1024],
+    tags: &mut [[u32; 4]; 1024],
+    fates: &mut [[u32; 2]],
+    list: &mut [[i64; 2]],
+) -> Step
     requires { ⌜ (c .lines ≤ length (now fates)) × (c .places ≤ length (now list)) ⌝ }
 {
     let row = [c.kind, c.track, c.flag, c.duration, 0];
-    let times = [c.pts, c.dts];
+    let stamps = [c.pts, c.dts];
     let seconds = [c.start, c.end];
     let lines = c.lines;
     let places = c.places;
     call_rows::make_call(
-        state,
+        head,
         row,
-        times,
+        stamps,
         seconds,
+        times,
+        tags,
         &mut fates[0..lines],
         &mut list[0..places],
     )
@@ -92,6 +101,8 @@ fn made(state: State, c: Call, fates: &mut [[u32; 2]], list: &mut [[i64; 2]]) ->
 fn on_lists(
     slot: Slot,
     c: Call,
+    times: &mut [[i64; 2]; 1024],
+    tags: &mut [[u32; 4]; 1024],
     fates: &mut [[u32; 2]; 4096],
     list: &mut [[i64; 2]; 4096],
 ) -> Slot {
@@ -107,22 +118,27 @@ fn on_lists(
         answers::none();
         return slot;
     }
-    let step = made(slots::handed(slot), c, fates, list);
+    let step = made(slots::handed(slot), c, times, tags, fates, list);
     told(c.kind, step, fates, list);
     if step.refusal != 0 {
         return slot;
     }
-    let s = step.state;
-    slots::slot_of(s)
+    let h = step.head;
+    slots::slot_of(h)
 }
 
-fn on_call(slot: Slot, c: Call) -> Slot {
+fn on_call(slot: Slot, c: Call, times: &mut [[i64; 2]; 1024], tags: &mut [[u32; 4]; 1024]) -> Slot {
     let mut fates = [[marks::LINE; 2]; 4096];
     let mut list = [[marks::TIME; 2]; 4096];
-    on_lists(slot, c, &mut fates, &mut list)
+    on_lists(slot, c, times, tags, &mut fates, &mut list)
 }
 
-fn create(slot: Slot, line: &[u8]) -> Slot {
+fn create(
+    slot: Slot,
+    line: &[u8],
+    times: &mut [[i64; 2]; 1024],
+    tags: &mut [[u32; 4]; 1024],
+) -> Slot {
     let k = calls::kinds_of(line);
     if !k.read {
         answers::unknown();
@@ -130,13 +146,13 @@ fn create(slot: Slot, line: &[u8]) -> Slot {
     }
     let kinds = k.kinds;
     let n = k.count;
-    let c = settings::create(words::part(&kinds, 0, n));
+    let c = settings::create(words::part(&kinds, 0, n), times, tags);
     let answer = c.answer;
     match answer {
         Answer::Done => {
             answers::ok();
-            let s = c.state;
-            slots::slot_of(s)
+            let h = c.head;
+            slots::slot_of(h)
         }
         Answer::Refused(why) => {
             answers::refused(call_rows::number_of(why));
@@ -146,7 +162,7 @@ fn create(slot: Slot, line: &[u8]) -> Slot {
     }
 }
 
-fn state(slot: Slot, w: Words) {
+fn state(slot: Slot, w: Words, times: &[[i64; 2]; 1024], tags: &[[u32; 4]; 1024]) {
     if w.count != 1 {
         answers::unknown();
         return;
@@ -155,12 +171,18 @@ fn state(slot: Slot, w: Words) {
         answers::none();
         return;
     }
-    let s = slot.state;
-    answers::state(s);
+    let h = slot.head;
+    answers::state(h, times, tags);
 }
 
-fn poke(slot: Slot, line: &[u8], w: Words) -> Slot {
-    let p = pokes::poke(slot, line, w);
+fn poke(
+    slot: Slot,
+    line: &[u8],
+    w: Words,
+    times: &mut [[i64; 2]; 1024],
+    tags: &mut [[u32; 4]; 1024],
+) -> Slot {
+    let p = pokes::poke(slot, line, w, times, tags);
     let verdict = p.verdict;
     match verdict {
         Verdict::Unknown => {
@@ -190,20 +212,26 @@ fn poke_read(slot: Slot, p: Poked) -> Slot {
     }
 }
 
-fn on_slot(slot: Slot, line: &[u8], w: Words) -> Slot {
+fn on_slot(
+    slot: Slot,
+    line: &[u8],
+    w: Words,
+    times: &mut [[i64; 2]; 1024],
+    tags: &mut [[u32; 4]; 1024],
+) -> Slot {
     let name = words::word(line, w, 0);
     if check::same(name, b"create") {
-        return create(slot, line);
+        return create(slot, line, times, tags);
     }
     if check::same(name, b"state") {
-        state(slot, w);
+        state(slot, w, times, tags);
         return slot;
     }
     if check::same(name, b"poke") {
-        return poke(slot, line, w);
+        return poke(slot, line, w, times, tags);
     }
     match calls::call_of(line, w) {
-        Parsed::Call(c) => on_call(slot, c),
+        Parsed::Call(c) => on_call(slot, c, times, tags),
         Parsed::Unknown => {
             answers::unknown();
             slot
@@ -236,7 +264,15 @@ fn buffer(s: Session, line: &[u8], w: Words) -> Session {
     s
 }
 
-fn save(s: Session, w: Words) -> Session {
+// The store of the slot in use goes to the saved one.
+fn save(
+    s: Session,
+    w: Words,
+    times: &[[i64; 2]; 1024],
+    tags: &[[u32; 4]; 1024],
+    saved_times: &mut [[i64; 2]; 1024],
+    saved_tags: &mut [[u32; 4]; 1024],
+) -> Session {
     if w.count != 1 {
         answers::unknown();
         return s;
@@ -246,13 +282,21 @@ fn save(s: Session, w: Words) -> Session {
         answers::none();
         return s;
     }
+    slots::copy_store(times, tags, saved_times, saved_tags);
     let mut t = s;
     t.saved = slot;
     answers::ok();
     t
 }
 
-fn restore(s: Session, w: Words) -> Session {
+fn restore(
+    s: Session,
+    w: Words,
+    times: &mut [[i64; 2]; 1024],
+    tags: &mut [[u32; 4]; 1024],
+    saved_times: &[[i64; 2]; 1024],
+    saved_tags: &[[u32; 4]; 1024],
+) -> Session {
     if w.count != 1 {
         answers::unknown();
         return s;
@@ -262,6 +306,7 @@ fn restore(s: Session, w: Words) -> Session {
         answers::none();
         return s;
     }
+    slots::copy_store(saved_times, saved_tags, times, tags);
     answers::ok();
     slots::with_used(s, slot)
 }
@@ -276,21 +321,30 @@ fn batch(s: Session, line: &[u8], w: Words) -> Session {
     t
 }
 
-fn answer(s: Session, line: &[u8], w: Words) -> Session {
+// A line on the store of the slot in use, with the saved one beside it.
+fn answer(
+    s: Session,
+    line: &[u8],
+    w: Words,
+    times: &mut [[i64; 2]; 1024],
+    tags: &mut [[u32; 4]; 1024],
+    saved_times: &mut [[i64; 2]; 1024],
+    saved_tags: &mut [[u32; 4]; 1024],
+) -> Session {
     let name = words::word(line, w, 0);
     if check::same(name, b"buffer") {
         return buffer(s, line, w);
     }
     if check::same(name, b"save") {
-        return save(s, w);
+        return save(s, w, times, tags, saved_times, saved_tags);
     }
     if check::same(name, b"restore") {
-        return restore(s, w);
+        return restore(s, w, times, tags, saved_times, saved_tags);
     }
     if check::same(name, b"batch") {
         return batch(s, line, w);
     }
-    slots::with_used(s, on_slot(slots::used(s), line, w))
+    slots::with_used(s, on_slot(slots::used(s), line, w, times, tags))
 }
 
 fn blank(line: &[u8]) -> bool {
@@ -301,7 +355,15 @@ fn blank(line: &[u8]) -> bool {
 }
 
 // A line, which is cut off where it fills its room.
-fn on_line(s: Session, line: &[u8], cut: bool) -> Session {
+fn on_line(
+    s: Session,
+    line: &[u8],
+    cut: bool,
+    times: &mut [[i64; 2]; 1024],
+    tags: &mut [[u32; 4]; 1024],
+    saved_times: &mut [[i64; 2]; 1024],
+    saved_tags: &mut [[u32; 4]; 1024],
+) -> Session {
     if blank(line) {
         return s;
     }
@@ -316,17 +378,41 @@ fn on_line(s: Session, line: &[u8], cut: bool) -> Session {
         answers::unknown();
         return t;
     }
-    answer(t, line, w)
+    answer(t, line, w, times, tags, saved_times, saved_tags)
 }
 
-fn run(chunk: &mut [u8; 4096], line: &mut [u8; 131072]) {
+// The lines one after another, each on the store of the slot then in use.
+fn run(
+    chunk: &mut [u8; 4096],
+    line: &mut [u8; 131072],
+    times: &mut [[i64; 2]; 1024],
+    tags: &mut [[u32; 4]; 1024],
+    second_times: &mut [[i64; 2]; 1024],
+    second_tags: &mut [[u32; 4]; 1024],
+    saved_times: &mut [[i64; 2]; 1024],
+    saved_tags: &mut [[u32; 4]; 1024],
+) {
     let mut s = slots::fresh();
     let mut r = input::start();
     let mut turns = u64::MAX;
     while 0 < turns {
         turns -= 1;
         r = input::next_line(r, chunk, line);
-        s = on_line(s, words::part(line, 0, r.length), line.len() <= r.length);
+        let text = words::part(line, 0, r.length);
+        let cut = line.len() <= r.length;
+        if s.second_used {
+            s = on_line(
+                s,
+                text,
+                cut,
+                second_times,
+                second_tags,
+                saved_times,
+                saved_tags,
+            );
+        } else {
+            s = on_line(s, text, cut, times, tags, saved_times, saved_tags);
+        }
         if r.ended {
             return;
         }
@@ -336,5 +422,20 @@ fn run(chunk: &mut [u8; 4096], line: &mut [u8; 131072]) {
 fn main() {
     let mut chunk = [0u8; 4096];
     let mut line = [0u8; 131072];
-    run(&mut chunk, &mut line);
+    let mut times = [[0i64; 2]; 1024];
+    let mut tags = [[0u32; 4]; 1024];
+    let mut second_times = [[0i64; 2]; 1024];
+    let mut second_tags = [[0u32; 4]; 1024];
+    let mut saved_times = [[0i64; 2]; 1024];
+    let mut saved_tags = [[0u32; 4]; 1024];
+    run(
+        &mut chunk,
+        &mut line,
+        &mut times,
+        &mut tags,
+        &mut second_times,
+        &mut second_tags,
+        &mut saved_times,
+        &mut saved_tags,
+    );
 }

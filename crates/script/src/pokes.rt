@@ -1,15 +1,16 @@
-// Pokes: one field of the state in a slot, written as it lies.
-ghost use Prim.Native.Nat.{_≤_};
+// Pokes: one field of the state in a slot, written as it lies. The frames of the slot are lent as two arrays.
+ghost use mathlib.Core.Path.{_≡_};
+ghost use Prim.Native.Nat.{_≤_, _<_};
+ghost use lib.ListN.{length};
 use crate::words::Words;
 use crate::words::begins;
 use crate::words::part;
 use crate::words::word;
-use buffer_state::Frame;
 use buffer_state::Group;
+use buffer_state::Head;
 use buffer_state::Mode;
 use buffer_state::Setting;
 use buffer_state::Settings;
-use buffer_state::State;
 use buffer_state::Track;
 use buffer_state::WindowEnd;
 use slots::ALL;
@@ -34,11 +35,6 @@ pub enum Verdict {
 pub struct Poked {
     pub verdict: Verdict,
     pub slot: Slot,
-}
-
-pub struct PokedFrame {
-    pub verdict: Verdict,
-    pub frame: Frame,
 }
 
 pub struct PokedTrack {
@@ -214,53 +210,6 @@ fn mode(w: &[u8]) -> ModeWord {
     }
 }
 
-// ---- one field of a frame
-
-fn frame_with(verdict: Verdict, frame: Frame) -> PokedFrame {
-    PokedFrame { verdict, frame }
-}
-
-fn poked_frame(f: Frame, name: &[u8], value: &[u8]) -> PokedFrame {
-    let mut g = f;
-    if check::same(name, b"track") {
-        let b = byte(value);
-        g.track = b.byte;
-        let v = b.verdict;
-        return frame_with(v, g);
-    }
-    if check::same(name, b"p") {
-        let t = time(value);
-        g.pts = t.micros;
-        let v = t.verdict;
-        return frame_with(v, g);
-    }
-    if check::same(name, b"d") {
-        let t = time(value);
-        g.dts = t.micros;
-        let v = t.verdict;
-        return frame_with(v, g);
-    }
-    if check::same(name, b"duration") {
-        let n = number(text::read::as_small(value));
-        g.duration = n.number;
-        let v = n.verdict;
-        return frame_with(v, g);
-    }
-    if check::same(name, b"flag") {
-        let b = flag(value);
-        g.flagged = b.on;
-        let v = b.verdict;
-        return frame_with(v, g);
-    }
-    if check::same(name, b"number") {
-        let n = number(text::read::as_small(value));
-        g.number = n.number;
-        let v = n.verdict;
-        return frame_with(v, g);
-    }
-    frame_with(Verdict::Unknown, g)
-}
-
 // ---- one field of a track
 
 fn track_with(verdict: Verdict, track: Track, set: u8) -> PokedTrack {
@@ -271,7 +220,7 @@ fn track_with(verdict: Verdict, track: Track, set: u8) -> PokedTrack {
     }
 }
 
-// One of the three values, its bit put to whether it is set. A State knows only all three or none.
+// One of the three values, its bit put to whether it is set. A Track knows only all three or none.
 fn three_with(verdict: Verdict, track: Track, set: u8, one: u8, on: bool) -> PokedTrack {
     let mut t = track;
     let mut bits = set & (ALL ^ one);
@@ -455,13 +404,13 @@ fn poked_group(g: Group, name: &[u8], value: &[u8]) -> PokedGroup {
     PokedGroup { verdict, group }
 }
 
-// ---- the state in a slot
+// ---- the head in a slot
 
-fn poked_with(verdict: Verdict, slot: Slot, state: State) -> Poked {
+fn poked_with(verdict: Verdict, slot: Slot, head: Head) -> Poked {
     let sets = slot.sets;
     let s = Slot {
         held: slot.held,
-        state,
+        head,
         sets,
         spare: slot.spare,
     };
@@ -491,21 +440,6 @@ fn place(line: &[u8], w: Words, most: u32) -> usize
     i as usize
 }
 
-// `frame I FIELD N`
-fn poke_frame(slot: Slot, line: &[u8], w: Words) -> Poked {
-    let i = place(line, w, 1024);
-    if i < 1 {
-        return unknown(slot);
-    }
-    let at = i - 1;
-    let mut s = slot.state;
-    let p = poked_frame(s.frames[at], word(line, w, 3), word(line, w, 4));
-    let f = p.frame;
-    let v = p.verdict;
-    s.frames[at] = f;
-    poked_with(v, slot, s)
-}
-
 // `track I FIELD ..`
 fn poke_track(slot: Slot, line: &[u8], w: Words) -> Poked {
     let i = place(line, w, 4);
@@ -513,64 +447,64 @@ fn poke_track(slot: Slot, line: &[u8], w: Words) -> Poked {
         return unknown(slot);
     }
     let at = i - 1;
-    let mut s = slot.state;
+    let mut h = slot.head;
     let p = poked_track(
-        s.tracks[at],
+        h.tracks[at],
         slot.sets[at],
         word(line, w, 3),
         word(line, w, 4),
     );
     let t = p.track;
     let v = p.verdict;
-    s.tracks[at] = t;
+    h.tracks[at] = t;
     let mut q = slot;
     q.sets[at] = p.set;
-    poked_with(v, q, s)
+    poked_with(v, q, h)
 }
 
 fn poke_group(slot: Slot, name: &[u8], value: &[u8]) -> Poked {
-    let mut s = slot.state;
-    let p = poked_group(s.group, name, value);
+    let mut h = slot.head;
+    let p = poked_group(h.group, name, value);
     let g = p.group;
     let v = p.verdict;
-    s.group = g;
-    poked_with(v, slot, s)
+    h.group = g;
+    poked_with(v, slot, h)
 }
 
 fn poke_settings(slot: Slot, name: &[u8], value: &[u8]) -> Poked {
-    let mut s = slot.state;
-    let p = poked_settings(s.settings, slot.spare, name, value);
+    let mut h = slot.head;
+    let p = poked_settings(h.settings, slot.spare, name, value);
     let t = p.settings;
     let v = p.verdict;
-    s.settings = t;
+    h.settings = t;
     let mut q = slot;
     q.spare = p.spare;
-    poked_with(v, q, s)
+    poked_with(v, q, h)
 }
 
 fn poke_mode(slot: Slot, value: &[u8]) -> Poked {
-    let s = slot.state;
+    let h = slot.head;
     let m = mode(value);
     let mode = m.mode;
     let v = m.verdict;
-    poked_with(v, slot, State { mode, ..s })
+    poked_with(v, slot, Head { mode, ..h })
 }
 
 // A count, of frames or of tracks, or the last frame number.
 fn poke_number(slot: Slot, name: &[u8], value: &[u8]) -> Poked {
     let n = number(text::read::as_small(value));
     let v = n.verdict;
-    let mut s = slot.state;
+    let mut h = slot.head;
     if check::same(name, b"last-number") {
-        s.last = n.number;
-        return poked_with(v, slot, s);
+        h.last = n.number;
+        return poked_with(v, slot, h);
     }
     if check::same(name, b"tracks") {
-        s.ntracks = n.number as usize;
-        return poked_with(v, slot, s);
+        h.ntracks = n.number as usize;
+        return poked_with(v, slot, h);
     }
-    s.nframes = n.number as usize;
-    poked_with(v, slot, s)
+    h.nframes = n.number as usize;
+    poked_with(v, slot, h)
 }
 
 fn is_number(name: &[u8]) -> bool {
@@ -590,10 +524,128 @@ fn is_group(name: &[u8]) -> bool {
     check::same(name, b"group-end")
 }
 
-pub fn poke(slot: Slot, line: &[u8], w: Words) -> Poked {
+// ---- a frame in its place
+
+fn is_done(v: Verdict) -> bool {
+    match v {
+        Verdict::Done => true,
+        _ => false,
+    }
+}
+
+// The column of the tags that a field is in; 4 where it is in none.
+fn tag_column(name: &[u8]) -> usize
+    ensures { λ r. ⌜ r ≤ 4 ⌝ }
+{
+    if check::same(name, b"track") {
+        return 0;
+    }
+    if check::same(name, b"flag") {
+        return 1;
+    }
+    if check::same(name, b"duration") {
+        return 2;
+    }
+    if check::same(name, b"number") {
+        return 3;
+    }
+    4
+}
+
+// The column of the times; 2 where it is in none.
+fn time_column(name: &[u8]) -> usize
+    ensures { λ r. ⌜ r ≤ 2 ⌝ }
+{
+    if check::same(name, b"p") {
+        return 0;
+    }
+    if check::same(name, b"d") {
+        return 1;
+    }
+    2
+}
+
+fn tag_with(row: [u32; 4], column: usize, n: u32) -> [u32; 4]
+    requires { ⌜ column < 4 ⌝ }
+{
+    let mut out = row;
+    out[column] = n;
+    out
+}
+
+fn time_with(row: [i64; 2], column: usize, z: i64) -> [i64; 2]
+    requires { ⌜ column < 2 ⌝ }
+{
+    let mut out = row;
+    out[column] = z;
+    out
+}
+
+// A number of a row is written where it could be read and there is a buffer.
+fn poke_tag(slot: Slot, value: &[u8], tags: &mut [[u32; 4]], at: usize, column: usize) -> Poked
+    requires { ⌜ (at < length (now tags)) × (column < 4) ⌝ }
+{
+    let n = number(text::read::as_small(value));
+    let verdict = n.verdict;
+    if slot.held & is_done(verdict) {
+        let row = tags[at];
+        tags[at] = tag_with(row, column, n.number);
+    }
+    Poked { verdict, slot }
+}
+
+fn poke_time(slot: Slot, value: &[u8], times: &mut [[i64; 2]], at: usize, column: usize) -> Poked
+    requires { ⌜ (at < length (now times)) × (column < 2) ⌝ }
+{
+    let t = time(value);
+    let verdict = t.verdict;
+    if slot.held & is_done(verdict) {
+        let row = times[at];
+        times[at] = time_with(row, column, t.micros);
+    }
+    Poked { verdict, slot }
+}
+
+// `frame I FIELD N`
+fn poke_frame(
+    slot: Slot,
+    line: &[u8],
+    w: Words,
+    times: &mut [[i64; 2]],
+    tags: &mut [[u32; 4]],
+) -> Poked
+    requires { ⌜ (length (now times) ≡ 1024) × (length (now tags) ≡ 1024) ⌝ }
+{
+    let i = place(line, w, 1024);
+    if i < 1 {
+        return unknown(slot);
+    }
+    let at = i - 1;
+    let name = word(line, w, 3);
+    let value = word(line, w, 4);
+    let tag = tag_column(name);
+    if tag < 4 {
+        return poke_tag(slot, value, tags, at, tag);
+    }
+    let time = time_column(name);
+    if time < 2 {
+        return poke_time(slot, value, times, at, time);
+    }
+    unknown(slot)
+}
+
+// ---- any poke
+
+pub fn poke(
+    slot: Slot,
+    line: &[u8],
+    w: Words,
+    times: &mut [[i64; 2]; 1024],
+    tags: &mut [[u32; 4]; 1024],
+) -> Poked {
     let name = word(line, w, 1);
     if check::same(name, b"frame") {
-        return poke_frame(slot, line, w);
+        return poke_frame(slot, line, w, times, tags);
     }
     if check::same(name, b"track") {
         return poke_track(slot, line, w);

@@ -4,7 +4,6 @@ use mathlib.Core.List.{List}
 use Prim.Native.Nat.{ℕ}
 use lib.IntN.{ℤ, pos}
 use lib.Ieee.{Float}
-use lib.ListN.{replicate}
 use lib.Signed.{ltZ}
 use Rattle.seconds.specs.Seconds.{zeroSeconds}
 use Rattle.buffer_state.specs.declared.Answer.the-variants.{Done}
@@ -15,9 +14,8 @@ use Rattle.buffer_state.specs.declared.Mode.the-variants.{Segments}
 use Rattle.buffer_state.specs.declared.Track.{Track}
 use Rattle.buffer_state.specs.declared.Setting.{Setting}
 use Rattle.buffer_state.specs.declared.Settings.{Settings}
-use Rattle.buffer_state.specs.declared.State.{State}
+use Rattle.buffer_state.specs.declared.Head.{Head}
 use Rattle.buffer_state.specs.Buffer.{isSequence, freshSettings}
-use Rattle.buffer_state.specs.Layout.{zeroFrame}
 use Rattle.buffer_state.specs.declared.WindowEnd.{WindowEnd}
 use Rattle.buffer_state.specs.declared.WindowEnd.the-variants.{Unbounded, At}
 use Rattle.buffer_state.specs.declared.Refusal.the-variants.{Seconds, Order}
@@ -38,70 +36,68 @@ setting x z = record { seconds = x; micros = z }
 abbrev pub openWindow : Setting → Settings
 openWindow o = record { offset = o; start = setting zeroSeconds (pos 0); end = Unbounded; limit = pos 0 }
 
--- the answer of a call that is not refused, with the state that it leaves
-abbrev pub accepted : State → Changed
-accepted s = record { answer = Done; state = s }
+-- the answer of a call that is not refused, with the head that it leaves
+abbrev pub accepted : Head → Changed
+accepted h = record { answer = Done; head = h }
 
 -- group start set to z in sequence mode
 abbrev pub groupFrom : Mode → Group → ℤ → Group
 groupFrom m g z = cond (isSequence m) (record { begun = true; start = z; end = g .end }) g
 
--- the state with other settings and another group
-abbrev pub resettled : State → Group → Settings → State
-resettled s g t = record {
-  frames = s .frames;
-  nframes = s .nframes;
-  tracks = s .tracks;
-  ntracks = s .ntracks;
-  mode = s .mode;
+-- the head with other settings and another group
+abbrev pub resettled : Head → Group → Settings → Head
+resettled h g t = record {
+  tracks = h .tracks;
+  ntracks = h .ntracks;
+  nframes = h .nframes;
+  mode = h .mode;
   group = g;
-  last = s .last;
+  last = h .last;
   settings = t;
 }
 
-abbrev pub withOffset : State → Float → ℤ → State
-withOffset s x z =
-    let t = s .settings in
-    resettled s (groupFrom (s .mode) (s .group) z)
+abbrev pub withOffset : Head → Float → ℤ → Head
+withOffset h x z =
+    let t = h .settings in
+    resettled h (groupFrom (h .mode) (h .group) z)
     (record { offset = setting x z; start = t .start; end = t .end; limit = t .limit })
 
 -- the window start set to a double that is z microseconds, or refusal 6
-abbrev pub startAt : State → Float → ℤ → Changed
-startAt s x z =
-    let t = s .settings in
-    cond (ltZ z (pos 0) || not (beforeBound z (windowEnd t))) (changed s (refused Order))
-    (accepted (resettled s (s .group) (record { offset = t .offset; start = setting x z; end = t .end; limit = t .limit })))
+abbrev pub startAt : Head → Float → ℤ → Changed
+startAt h x z =
+    let t = h .settings in
+    cond (ltZ z (pos 0) || not (beforeBound z (windowEnd t))) (changed h (refused Order))
+    (accepted (resettled h (h .group) (record { offset = t .offset; start = setting x z; end = t .end; limit = t .limit })))
 
 -- the window end set, with its microseconds beside it
-abbrev pub withEnd : State → WindowEnd → ℤ → State
-withEnd s end limit = let t = s .settings in resettled s (s .group) (record { offset = t .offset; start = t .start; end = end; limit = limit })
+abbrev pub withEnd : Head → WindowEnd → ℤ → Head
+withEnd h end limit = let t = h .settings in resettled h (h .group) (record { offset = t .offset; start = t .start; end = end; limit = limit })
 
 -- the window end set to a double that is z microseconds, or refusal 6
-abbrev pub endAfter : State → Float → ℤ → Changed
-endAfter s x z = cond (ltZ (s .settings .start .micros) z) (accepted (withEnd s (At x) z)) (changed s (refused Order))
+abbrev pub endAfter : Head → Float → ℤ → Changed
+endAfter h x z = cond (ltZ (h .settings .start .micros) z) (accepted (withEnd h (At x) z)) (changed h (refused Order))
 
 -- ---- by what a conversion answers
 
-abbrev pub offsetBy : State → Float → Micros → Changed
-offsetBy s x (Micros.At z) = accepted (withOffset s x z)
-offsetBy s x Micros.Refused = changed s (refused Seconds)
+abbrev pub offsetBy : Head → Float → Micros → Changed
+offsetBy h x (Micros.At z) = accepted (withOffset h x z)
+offsetBy h x Micros.Refused = changed h (refused Seconds)
 
-abbrev pub startBy : State → Float → Micros → Changed
-startBy s x (Micros.At z) = startAt s x z
-startBy s x Micros.Refused = changed s (refused Seconds)
+abbrev pub startBy : Head → Float → Micros → Changed
+startBy h x (Micros.At z) = startAt h x z
+startBy h x Micros.Refused = changed h (refused Seconds)
 
-abbrev pub endBy : State → Float → EndMicros → Changed
-endBy s x End.Unbounded = accepted (withEnd s Unbounded (pos 0))
-endBy s x (End.At z) = endAfter s x z
-endBy s x End.Refused = changed s (refused Seconds)
+abbrev pub endBy : Head → Float → EndMicros → Changed
+endBy h x End.Unbounded = accepted (withEnd h Unbounded (pos 0))
+endBy h x (End.At z) = endAfter h x z
+endBy h x End.Refused = changed h (refused Seconds)
 
--- a state without frames, everything unset, in segments mode
-abbrev pub freshState : List Track → ℕ → State
-freshState ts n = record {
-  frames = replicate 1024 zeroFrame;
-  nframes = 0;
+-- a head without frames, everything unset, in segments mode
+abbrev pub freshHead : List Track → ℕ → Head
+freshHead ts n = record {
   tracks = ts;
   ntracks = n;
+  nframes = 0;
   mode = Segments;
   group = record { begun = false; start = pos 0; end = pos 0 };
   last = 0;

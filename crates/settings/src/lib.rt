@@ -1,8 +1,8 @@
-// Creation, abort, the setters and reading the settings back. Refusal 1 comes first in each, and a refused
-// call hands back the state that it was handed.
+// Creation, abort, the setters and reading the settings back. Refusal 1 comes first in each, and a refused call hands back the head that
+// it was handed. None but creation changes a frame: the others borrow the two arrays to test them.
 ghost use mathlib.Core.Path.{_≡_};
 ghost use mathlib.Core.Bool.{cond};
-ghost use Rattle.settings.specs.Windows.{setting, openWindow, accepted, freshState, groupFrom, withOffset, startAt, withEnd, endAfter};
+ghost use Rattle.settings.specs.Windows.{setting, openWindow, accepted, freshHead, groupFrom, withOffset, startAt, withEnd, endAfter};
 ghost use mathlib.Core.List.{map};
 ghost use Prim.Native.Nat.{_≤_};
 ghost use lib.ListN.{length};
@@ -13,38 +13,38 @@ ghost use Rattle.buffer_state.specs.Limits.{knownKind};
 ghost use Rattle.buffer_state.specs.WellFormed.{allOf};
 ghost use Rattle.buffer_state.specs.Refusals.{refused};
 ghost use Rattle.buffer_state.specs.Remove.{beforeBound};
-ghost use Rattle.buffer_state.specs.Settings.{boundAt};
-ghost use Rattle.buffer_state.specs.Answers.{changed, zeroState, abortAnswer, modeAnswer, offsetAnswer, windowStartAnswer, windowEndAnswer, settingsAnswer, createAnswer};
+ghost use Rattle.buffer_state.specs.Settings.{boundAt, create};
+ghost use Rattle.buffer_state.specs.Answers.{changed, zeroHead, abortAnswer, modeAnswer, offsetAnswer, windowStartAnswer, windowEndAnswer, settingsAnswer, createAnswer, timesCreated, tagsCreated};
+ghost use Rattle.buffer_state.specs.Lent.{Lengths};
 use buffer_state::Answer;
 use buffer_state::Changed;
-use buffer_state::Frame;
 use buffer_state::Group;
+use buffer_state::Head;
 use buffer_state::Mode;
 use buffer_state::Read;
 use buffer_state::Refusal;
 use buffer_state::Setting;
 use buffer_state::Settings;
-use buffer_state::State;
 use buffer_state::Track;
 use buffer_state::WindowEnd;
 use seconds::EndMicros;
 use seconds::Micros;
 
-fn refuse(why: Refusal, s: State) -> Changed
-    ensures { λ r. ⌜ r ≡ changed s (refused why) ⌝ }
+fn refuse(why: Refusal, h: Head) -> Changed
+    ensures { λ r. ⌜ r ≡ changed h (refused why) ⌝ }
 {
     Changed {
         answer: Answer::Refused(why),
-        state: s,
+        head: h,
     }
 }
 
-fn done(s: State) -> Changed
-    ensures { λ r. ⌜ r ≡ accepted s ⌝ }
+fn done(h: Head) -> Changed
+    ensures { λ r. ⌜ r ≡ accepted h ⌝ }
 {
     Changed {
         answer: Answer::Done,
-        state: s,
+        head: h,
     }
 }
 
@@ -75,39 +75,39 @@ fn open_window(o: Setting) -> Settings
 }
 
 // Abort: refusal 1 only.
-pub fn abort(s: State) -> Changed
-    ensures { λ r. ⌜ r ≡ abortAnswer s ⌝ }
+pub fn abort(h: Head, times: &[[i64; 2]; 1024], tags: &[[u32; 4]; 1024]) -> Changed
+    ensures { λ r. ⌜ r ≡ abortAnswer h (now (times .entry)) (now (tags .entry)) ⌝ }
 {
-    if !validation::well_formed(s) {
-        return refuse(Refusal::IllFormed, s);
+    if !validation::well_formed(h, times, tags) {
+        return refuse(Refusal::IllFormed, h);
     }
-    let old = s.tracks;
-    let n = s.ntracks;
+    let old = h.tracks;
+    let n = h.ntracks;
     let restarted = tracks::restart_all(old, n);
-    let m = s.mode;
-    let started = group_after(m, s.group);
-    let t = s.settings;
+    let m = h.mode;
+    let started = group_after(m, h.group);
+    let t = h.settings;
     let w = open_window(t.offset);
-    done(State {
+    done(Head {
         tracks: restarted,
         group: started,
         settings: w,
-        ..s
+        ..h
     })
 }
 
 // Setting sequence sets group start = group end; setting segments changes the mode only.
-pub fn set_mode(s: State, m: Mode) -> Changed
-    ensures { λ r. ⌜ r ≡ modeAnswer m s ⌝ }
+pub fn set_mode(h: Head, times: &[[i64; 2]; 1024], tags: &[[u32; 4]; 1024], m: Mode) -> Changed
+    ensures { λ r. ⌜ r ≡ modeAnswer m h (now (times .entry)) (now (tags .entry)) ⌝ }
 {
-    if !validation::well_formed(s) {
-        return refuse(Refusal::IllFormed, s);
+    if !validation::well_formed(h, times, tags) {
+        return refuse(Refusal::IllFormed, h);
     }
-    let g = group_after(m, s.group);
-    done(State {
+    let g = group_after(m, h.group);
+    done(Head {
         mode: m,
         group: g,
-        ..s
+        ..h
     })
 }
 
@@ -137,32 +137,32 @@ fn group_from(m: Mode, g: Group, z: i64) -> Group
 }
 
 // The state with the offset set to a double that is z microseconds.
-fn with_offset(s: State, x: f64, z: i64) -> State
-    ensures { λ r. ⌜ r ≡ withOffset s x z ⌝ }
+fn with_offset(h: Head, x: f64, z: i64) -> Head
+    ensures { λ r. ⌜ r ≡ withOffset h x z ⌝ }
 {
     let o = given(x, z);
-    let t = s.settings;
+    let t = h.settings;
     let new = Settings { offset: o, ..t };
-    let m = s.mode;
-    let g = group_from(m, s.group, z);
-    State {
+    let m = h.mode;
+    let g = group_from(m, h.group, z);
+    Head {
         group: g,
         settings: new,
-        ..s
+        ..h
     }
 }
 
 // Set the offset: refusals 1 and 5 in that order.
-pub fn set_offset(s: State, x: f64) -> Changed
-    ensures { λ r. ⌜ r ≡ offsetAnswer x s ⌝ }
+pub fn set_offset(h: Head, times: &[[i64; 2]; 1024], tags: &[[u32; 4]; 1024], x: f64) -> Changed
+    ensures { λ r. ⌜ r ≡ offsetAnswer x h (now (times .entry)) (now (tags .entry)) ⌝ }
 {
-    if !validation::well_formed(s) {
-        return refuse(Refusal::IllFormed, s);
+    if !validation::well_formed(h, times, tags) {
+        return refuse(Refusal::IllFormed, h);
     }
     let m = seconds::micros_of(x);
     match m {
-        Micros::Refused => refuse(Refusal::Seconds, s),
-        Micros::At(z) => done(with_offset(s, x, z)),
+        Micros::Refused => refuse(Refusal::Seconds, h),
+        Micros::At(z) => done(with_offset(h, x, z)),
     }
 }
 
@@ -172,47 +172,52 @@ fn before_end(z: i64, end: WindowEnd, limit: i64) -> bool
 {
     match end {
         WindowEnd::Unbounded => true,
-        WindowEnd::At(_) => validation::below(z, limit),
+        WindowEnd::At(_) => limits::below(z, limit),
     }
 }
 
 // The window start set to a double that is z microseconds, or refusal 6.
-fn start_at(s: State, x: f64, z: i64) -> Changed
-    ensures { λ r. ⌜ r ≡ startAt s x z ⌝ }
+fn start_at(h: Head, x: f64, z: i64) -> Changed
+    ensures { λ r. ⌜ r ≡ startAt h x z ⌝ }
 {
-    let t = s.settings;
+    let t = h.settings;
     let end = t.end;
     let limit = t.limit;
-    if validation::below(z, 0) {
-        return refuse(Refusal::Order, s);
+    if limits::below(z, 0) {
+        return refuse(Refusal::Order, h);
     }
     if !before_end(z, end, limit) {
-        return refuse(Refusal::Order, s);
+        return refuse(Refusal::Order, h);
     }
     let w = given(x, z);
     let new = Settings { start: w, ..t };
-    done(State { settings: new, ..s })
+    done(Head { settings: new, ..h })
 }
 
 // Set the window start: refusals 1, 5 and 6 in that order.
-pub fn set_window_start(s: State, x: f64) -> Changed
-    ensures { λ r. ⌜ r ≡ windowStartAnswer x s ⌝ }
+pub fn set_window_start(
+    h: Head,
+    times: &[[i64; 2]; 1024],
+    tags: &[[u32; 4]; 1024],
+    x: f64,
+) -> Changed
+    ensures { λ r. ⌜ r ≡ windowStartAnswer x h (now (times .entry)) (now (tags .entry)) ⌝ }
 {
-    if !validation::well_formed(s) {
-        return refuse(Refusal::IllFormed, s);
+    if !validation::well_formed(h, times, tags) {
+        return refuse(Refusal::IllFormed, h);
     }
     let m = seconds::micros_of(x);
     match m {
-        Micros::Refused => refuse(Refusal::Seconds, s),
-        Micros::At(z) => start_at(s, x, z),
+        Micros::Refused => refuse(Refusal::Seconds, h),
+        Micros::At(z) => start_at(h, x, z),
     }
 }
 
 // The window end set, with its microseconds beside it.
-fn with_end(s: State, end: WindowEnd, limit: i64) -> State
-    ensures { λ r. ⌜ r ≡ withEnd s end limit ⌝ }
+fn with_end(h: Head, end: WindowEnd, limit: i64) -> Head
+    ensures { λ r. ⌜ r ≡ withEnd h end limit ⌝ }
 {
-    let t = s.settings;
+    let t = h.settings;
     let o = t.offset;
     let w = t.start;
     let new = Settings {
@@ -221,7 +226,7 @@ fn with_end(s: State, end: WindowEnd, limit: i64) -> State
         end,
         limit,
     };
-    State { settings: new, ..s }
+    Head { settings: new, ..h }
 }
 
 // z is above a setting, in microseconds.
@@ -232,40 +237,40 @@ fn above(w: Setting, z: i64) -> bool
 }
 
 // The window end set to a double that is z microseconds, or refusal 6.
-fn end_at(s: State, x: f64, z: i64) -> Changed
-    ensures { λ r. ⌜ r ≡ endAfter s x z ⌝ }
+fn end_at(h: Head, x: f64, z: i64) -> Changed
+    ensures { λ r. ⌜ r ≡ endAfter h x z ⌝ }
 {
-    let t = s.settings;
+    let t = h.settings;
     let w = t.start;
     if !above(w, z) {
-        return refuse(Refusal::Order, s);
+        return refuse(Refusal::Order, h);
     }
-    done(with_end(s, WindowEnd::At(x), z))
+    done(with_end(h, WindowEnd::At(x), z))
 }
 
 // Set the window end: refusals 1, 5 and 6 in that order.
-pub fn set_window_end(s: State, x: f64) -> Changed
-    ensures { λ r. ⌜ r ≡ windowEndAnswer x s ⌝ }
+pub fn set_window_end(h: Head, times: &[[i64; 2]; 1024], tags: &[[u32; 4]; 1024], x: f64) -> Changed
+    ensures { λ r. ⌜ r ≡ windowEndAnswer x h (now (times .entry)) (now (tags .entry)) ⌝ }
 {
-    if !validation::well_formed(s) {
-        return refuse(Refusal::IllFormed, s);
+    if !validation::well_formed(h, times, tags) {
+        return refuse(Refusal::IllFormed, h);
     }
     let m = seconds::end_micros(x);
     match m {
-        EndMicros::Refused => refuse(Refusal::Seconds, s),
-        EndMicros::Unbounded => done(with_end(s, WindowEnd::Unbounded, 0)),
-        EndMicros::At(z) => end_at(s, x, z),
+        EndMicros::Refused => refuse(Refusal::Seconds, h),
+        EndMicros::Unbounded => done(with_end(h, WindowEnd::Unbounded, 0)),
+        EndMicros::At(z) => end_at(h, x, z),
     }
 }
 
 // The three settings in seconds, as they were given.
-pub fn read_settings(s: State) -> Read
-    ensures { λ r. ⌜ r ≡ settingsAnswer s ⌝ }
+pub fn read_settings(h: Head, times: &[[i64; 2]; 1024], tags: &[[u32; 4]; 1024]) -> Read
+    ensures { λ r. ⌜ r ≡ settingsAnswer h (now (times .entry)) (now (tags .entry)) ⌝ }
 {
-    if !validation::well_formed(s) {
+    if !validation::well_formed(h, times, tags) {
         return Read::Refused(Refusal::IllFormed);
     }
-    let t = s.settings;
+    let t = h.settings;
     let offset = t.offset.seconds;
     let start = t.start.seconds;
     let end = t.end;
@@ -336,18 +341,10 @@ fn fresh_tracks(kinds: &[u8]) -> [Track; 4]
     out
 }
 
-// A state without frames, everything unset, in segments mode.
-fn fresh_state(tracks: [Track; 4], n: usize) -> State
-    ensures { λ r. ⌜ r ≡ freshState tracks n ⌝ }
+// A head without frames, everything unset, in segments mode.
+fn fresh_head(tracks: [Track; 4], n: usize) -> Head
+    ensures { λ r. ⌜ r ≡ freshHead tracks n ⌝ }
 {
-    let z = Frame {
-        track: 0,
-        flagged: false,
-        duration: 0,
-        number: 0,
-        pts: 0,
-        dts: 0,
-    };
     let o = Setting {
         seconds: 0.0,
         micros: 0,
@@ -358,11 +355,10 @@ fn fresh_state(tracks: [Track; 4], n: usize) -> State
         end: 0,
     };
     let t = open_window(o);
-    State {
-        frames: [z; 1024],
-        nframes: 0,
+    Head {
         tracks,
         ntracks: n,
+        nframes: 0,
         mode: Mode::Segments,
         group: g,
         last: 0,
@@ -370,27 +366,41 @@ fn fresh_state(tracks: [Track; 4], n: usize) -> State
     }
 }
 
-// A refused creation carries the state of zeros, which every call refuses.
-pub fn no_state() -> Changed
-    ensures { λ r. ⌜ r ≡ changed zeroState (refused Refusal.Kinds) ⌝ }
+// A refused creation carries the head of zeros, which every call refuses.
+pub fn no_head() -> Changed
+    ensures { λ r. ⌜ r ≡ changed zeroHead (refused Refusal.Kinds) ⌝ }
 {
     let z = zero_track();
-    refuse(Refusal::Kinds, fresh_state([z; 4], 0))
+    refuse(Refusal::Kinds, fresh_head([z; 4], 0))
 }
 
-// A buffer from a lent list of kinds.
-pub fn create(kinds: &[u8]) -> Changed
-    ensures { λ r. ⌜ r ≡ createAnswer (now (kinds .entry)) ⌝ }
+// A creation on slices.
+fn create_in(kinds: &[u8], times: &mut [[i64; 2]], tags: &mut [[u32; 4]]) -> Changed
+    requires { ⌜ Lengths (now times) (now tags) ⌝ }
+    ensures answer { λ r. ⌜ r ≡ createAnswer (now (kinds .entry)) ⌝ }
+    ensures times { λ r. ⌜ now (times .exit) ≡ timesCreated (create (now (kinds .entry))) (now (times .entry)) ⌝ }
+    ensures tags { λ r. ⌜ now (tags .exit) ≡ tagsCreated (create (now (kinds .entry))) (now (tags .entry)) ⌝ }
 {
     let n = kinds.len();
     if n == 0 {
-        return no_state();
+        return no_head();
     }
     if 4 < n {
-        return no_state();
+        return no_head();
     }
     if !kinds_known(kinds) {
-        return no_state();
+        return no_head();
     }
-    done(fresh_state(fresh_tracks(kinds), n))
+    places::clear_times(times, 0, 1024);
+    places::clear_tags(tags, 0, 1024);
+    done(fresh_head(fresh_tracks(kinds), n))
+}
+
+// A buffer from a lent list of kinds. It clears the arrays that it is lent; refused, it touches nothing.
+pub fn create(kinds: &[u8], times: &mut [[i64; 2]; 1024], tags: &mut [[u32; 4]; 1024]) -> Changed
+    ensures answer { λ r. ⌜ r ≡ createAnswer (now (kinds .entry)) ⌝ }
+    ensures times { λ r. ⌜ now (times .exit) ≡ timesCreated (create (now (kinds .entry))) (now (times .entry)) ⌝ }
+    ensures tags { λ r. ⌜ now (tags .exit) ≡ tagsCreated (create (now (kinds .entry))) (now (tags .entry)) ⌝ }
+{
+    create_in(kinds, times, tags)
 }

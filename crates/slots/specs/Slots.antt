@@ -1,10 +1,10 @@
--- What a slot holds beside its state, the state that a call is handed, and the slot in use.
+-- What a slot holds beside its head, the head that a call is handed, and the slot in use.
 use mathlib.Core.Bool.{Bool, true, cond, _&&_, _||_}
 use mathlib.Core.List.{[], _∷_}
 use Prim.Native.Nat.{ℕ}
 use lib.Dec.{eqb}
 use lib.ListN.{getD}
-use Rattle.buffer_state.specs.declared.State.{State}
+use Rattle.buffer_state.specs.declared.Head.{Head}
 use Rattle.buffer_state.specs.declared.Track.{Track}
 use Rattle.buffer_state.specs.Buffer.{zeroTrack}
 use Rattle.seconds.specs.Seconds.{zeroSeconds, sameDouble}
@@ -15,23 +15,23 @@ use Rattle.slots.specs.declared.Session.{Session}
 abbrev pub setOf : Track → ℕ
 setOf t = cond (t .known) 7 0
 
--- the slot of a state that a call gave
-abbrev pub slotOf : State → Slot
-slotOf s = record {
+-- the slot of a head that a call gave
+abbrev pub slotOf : Head → Slot
+slotOf h = record {
   held = true;
-  state = s;
+  head = h;
   sets = at 0 ∷ at 1 ∷ at 2 ∷ at 3 ∷ [];
   spare = zeroSeconds;
 }
   where
     at : ℕ → ℕ
-    at i = setOf (getD (s .tracks) i zeroTrack)
+    at i = setOf (getD (h .tracks) i zeroTrack)
 
 -- none of a track's three values set, or all, a bit each
 abbrev pub togetherOf : ℕ → Bool
 togetherOf set = eqb set 0 || eqb set 7
 
--- the state alone says all that the slot holds: on each track the three are set together, and the double kept beside an unbounded
+-- the head alone says all that the slot holds: on each track the three are set together, and the double kept beside an unbounded
 -- window end is plus zero
 abbrev pub holdsAll : Slot → Bool
 holdsAll slot =
@@ -40,22 +40,21 @@ holdsAll slot =
     && (togetherOf (getD (slot .sets) 2 0)
     && (togetherOf (getD (slot .sets) 3 0) && sameDouble (slot .spare) zeroSeconds)))
 
--- a state of nine tracks, which is not well-formed
-abbrev pub overfull : State → State
-overfull s = record {
-  frames = s .frames;
-  nframes = s .nframes;
-  tracks = s .tracks;
+-- a head of nine tracks, which is not well-formed
+abbrev pub overfull : Head → Head
+overfull h = record {
+  tracks = h .tracks;
   ntracks = 9;
-  mode = s .mode;
-  group = s .group;
-  last = s .last;
-  settings = s .settings;
+  nframes = h .nframes;
+  mode = h .mode;
+  group = h .group;
+  last = h .last;
+  settings = h .settings;
 }
 
--- the state of the slot where that says all, else one that is not well-formed either
-abbrev pub handedOf : Slot → State
-handedOf slot = cond (holdsAll slot) (slot .state) (overfull (slot .state))
+-- the head of the slot where that says all, else one that is not well-formed either
+abbrev pub handedOf : Slot → Head
+handedOf slot = cond (holdsAll slot) (slot .head) (overfull (slot .head))
 
 abbrev pub usedOf : Session → Slot
 usedOf s = cond (s .«second_used») (s .second) (s .first)

@@ -1,16 +1,17 @@
-// The two buffers of a session and its saved state.
+// The two buffers of a session and its saved state: their heads. The stores of the three are lent beside them.
 ghost use mathlib.Core.Path.{_≡_};
+ghost use lib.ListN.{length};
 ghost use Rattle.slots.specs.Slots.{setOf, slotOf, togetherOf, holdsAll, handedOf, usedOf, withUsed};
-use buffer_state::State;
+use buffer_state::Head;
 use buffer_state::Track;
 
 pub const ALL: u8 = 7; // the three values of a track, a bit each
 
-// A buffer, if there is one, and beside its state what pokes may leave and no State can hold: for each track which of its three
+// A buffer's head, if there is one, and beside it what pokes may leave and no Head can hold: for each track which of its three
 // values are set, and the double kept beside a window end that is unbounded.
 pub struct Slot {
     pub held: bool,
-    pub state: State,
+    pub head: Head,
     pub sets: [u8; 4],
     pub spare: f64,
 }
@@ -32,29 +33,29 @@ fn set_of(t: Track) -> u8
     0
 }
 
-// A state that a call gave.
-pub fn slot_of(state: State) -> Slot
-    ensures { λ r. ⌜ r ≡ slotOf state ⌝ }
+// A head that a call gave.
+pub fn slot_of(head: Head) -> Slot
+    ensures { λ r. ⌜ r ≡ slotOf head ⌝ }
 {
     let sets = [
-        set_of(state.tracks[0]),
-        set_of(state.tracks[1]),
-        set_of(state.tracks[2]),
-        set_of(state.tracks[3]),
+        set_of(head.tracks[0]),
+        set_of(head.tracks[1]),
+        set_of(head.tracks[2]),
+        set_of(head.tracks[3]),
     ];
     Slot {
         held: true,
-        state,
+        head,
         sets,
         spare: 0.0,
     }
 }
 
-// A slot without a buffer. What stands for its state is never handed to a call.
+// A slot without a buffer. What stands for its head is never handed to a call.
 fn empty() -> Slot {
-    let c = settings::create(&[0]);
-    let state = c.state;
-    let mut s = slot_of(state);
+    let c = settings::no_head();
+    let head = c.head;
+    let mut s = slot_of(head);
     s.held = false;
     s
 }
@@ -79,7 +80,7 @@ fn together(set: u8) -> bool
     set == ALL
 }
 
-// Whether the state alone says all that the slot holds.
+// Whether the head alone says all that the slot holds.
 fn holds(slot: Slot) -> bool
     ensures { λ r. ⌜ r ≡ holdsAll slot ⌝ }
 {
@@ -98,15 +99,15 @@ fn holds(slot: Slot) -> bool
     seconds::same_double(slot.spare, 0.0)
 }
 
-// The state handed to a call. What no State can hold is not well-formed, and no more is a state of nine tracks.
-pub fn handed(slot: Slot) -> State
+// The head handed to a call. What no Head can hold is not well-formed, and no more is a head of nine tracks.
+pub fn handed(slot: Slot) -> Head
     ensures { λ r. ⌜ r ≡ handedOf slot ⌝ }
 {
-    let s = slot.state;
+    let h = slot.head;
     if holds(slot) {
-        return s;
+        return h;
     }
-    State { ntracks: 9, ..s }
+    Head { ntracks: 9, ..h }
 }
 
 // The slot in use.
@@ -129,4 +130,44 @@ pub fn with_used(s: Session, slot: Slot) -> Session
         t.first = slot;
     }
     t
+}
+
+// ---- the stores
+
+fn copy_times(from: &[[i64; 2]], to: &mut [[i64; 2]])
+    requires { ⌜ length (now from) ≡ length (now to) ⌝ }
+    ensures { λ r. ⌜ now (to .exit) ≡ now (from .entry) ⌝ }
+{
+    let mut i: usize = 0;
+    while i < from.len() {
+        let time = from[i];
+        to[i] = time;
+        i += 1;
+    }
+}
+
+fn copy_tags(from: &[[u32; 4]], to: &mut [[u32; 4]])
+    requires { ⌜ length (now from) ≡ length (now to) ⌝ }
+    ensures { λ r. ⌜ now (to .exit) ≡ now (from .entry) ⌝ }
+{
+    let mut i: usize = 0;
+    while i < from.len() {
+        let tag = from[i];
+        to[i] = tag;
+        i += 1;
+    }
+}
+
+// A store saved or restored.
+pub fn copy_store(
+    times: &[[i64; 2]; 1024],
+    tags: &[[u32; 4]; 1024],
+    to_times: &mut [[i64; 2]; 1024],
+    to_tags: &mut [[u32; 4]; 1024],
+)
+    ensures times { λ r. ⌜ now («to_times» .exit) ≡ now (times .entry) ⌝ }
+    ensures tags { λ r. ⌜ now («to_tags» .exit) ≡ now (tags .entry) ⌝ }
+{
+    copy_times(times, to_times);
+    copy_tags(tags, to_tags);
 }

@@ -1,19 +1,26 @@
--- No two frames have one number exactly when no number occurs twice, which a sorted list shows by its neighbours.
-use mathlib.Core.Path.{_≡_, sym, ap, _∙_}
+-- No two frames have one number exactly when no number stands twice in the column of the tags; and none there is zero.
+use mathlib.Core.Path.{_≡_, refl, sym, ap, _∙_}
 use mathlib.Core.Bool.{Bool, true, not}
 use mathlib.Core.List.{List, [], _∷_, map}
 use Prim.Native.Nat.{ℕ, _≤_}
 use native.Mathlib.Omega.{arith}
 use lib.Dec.{eqb}
-use lib.ListN.{take}
+use lib.IntN.{ℤ}
+use lib.ListN.{length}
 use borrow.Author.Tests.{eqb-true, eqb-false, eq-eqb, not-true}
 use Rattle.laws.proofs.BoolLaws.{split, both-ways, same-test}
-use Rattle.sorting.specs.Sorting.{occurrences, noNeighbours, Sorted}
-use Rattle.sorting.proofs.SortLaws.{occurs-none, occurs-first, occurs-later, rises-sorted, once-apart}
+use Rattle.sorting.specs.Sorting.{occurrences}
+use Rattle.sorting.proofs.SortLaws.{occurs-none, occurs-first, occurs-later}
 use Rattle.buffer_state.specs.declared.Frame.{Frame}
-use Rattle.buffer_state.specs.WellFormed.{allOf, distinctNumbers}
+use Rattle.buffer_state.specs.Lent.{framesOf}
+use Rattle.buffer_state.specs.WellFormed.{allOf, goodFrame, distinctNumbers}
+use Rattle.buffer_laws.proofs.GoodLaws.{frame-facts}
 use Rattle.buffer_laws.proofs.TestLaws.{all-first, all-rest, all-more, all-none, pairs-first, pairs-rest, pairs-more, pairs-none}
-use Rattle.validation.specs.Places.{numberOf}
+use Rattle.numbers.specs.Numbers.{numberIn, numbersOf, noRepeat}
+use Rattle.numbers.proofs.OnceLaws.{each-once, once-each}
+
+abbrev numberOf : Frame → ℕ
+numberOf f = f .number
 
 -- a frame with another number
 abbrev other : ℕ → Frame → Bool
@@ -54,10 +61,28 @@ once-distinct (f ∷ fs) h =
         (λ q. rw (eqb-true k (f .number) q) (omega (arith, h (f .number), occurs-first (f .number) (map numberOf fs))))
         (λ q. omega (arith, h k, occurs-later k (f .number) (map numberOf fs) (eqb-false k (f .number) q)))
 
--- The test by a sort: the numbers, sorted, have no two equal neighbours exactly when they are distinct.
-pub distinct-by-sort : (fs : List Frame) (n : ℕ) (a r : List ℕ) → take n a ≡ map numberOf fs → Sorted n a r → noNeighbours (take n r) ≡ distinctNumbers fs
-distinct-by-sort fs n a r e s =
-    let same : (k : ℕ) → occurrences k (take n r) ≡ occurrences k (map numberOf fs) = λ k. s .kept k ∙ ap (occurrences k) e in
+-- the numbers of the frames that two arrays hold
+frame-numbers : (ts : List (List ℤ)) (gs : List (List ℕ)) → length ts ≡ length gs → map numberOf (framesOf ts gs) ≡ numbersOf gs
+unfolding framesOf numbersOf
+frame-numbers [] [] e = refl
+frame-numbers [] (g ∷ gs) e = absurd (omega arith)
+frame-numbers (t ∷ ts) [] e = absurd (omega arith)
+frame-numbers (t ∷ ts) (g ∷ gs) e = ap (λ (l : List ℕ). numberIn g ∷ l) (frame-numbers ts gs (omega arith))
+
+pub distinct-numbers : (ts : List (List ℤ)) (gs : List (List ℕ)) → length ts ≡ length gs → distinctNumbers (framesOf ts gs) ≡ noRepeat (numbersOf gs)
+distinct-numbers ts gs e =
+    let same = frame-numbers ts gs e in
     same-test _ _
-    (λ h. once-distinct fs (λ k. omega (arith, same k, rises-sorted (take n r) (s .rising) h k)))
-    (λ h. once-apart (take n r) (λ k. omega (arith, same k, distinct-once fs h k)))
+    (λ d. each-once (numbersOf gs) (λ k. omega (arith, ap (occurrences k) same, distinct-once (framesOf ts gs) d k)))
+    (λ d. once-distinct (framesOf ts gs) (λ k. omega (arith, ap (occurrences k) same, once-each (numbersOf gs) d k)))
+
+-- none is zero
+no-zero : (tracks last : ℕ) (fs : List Frame) → allOf (goodFrame tracks last) fs ≡ true → occurrences 0 (map numberOf fs) ≡ 0
+no-zero tracks last [] e = occurs-none 0
+no-zero tracks last (f ∷ fs) e =
+    let g = frame-facts tracks last f (all-first (goodFrame tracks last) f fs e) in
+    occurs-later 0 (f .number) (map numberOf fs) (λ q. omega (arith, g .number-from, q)) ∙ no-zero tracks last fs (all-rest (goodFrame tracks last) f fs e)
+
+pub numbers-from-one : (tracks last : ℕ) (ts : List (List ℤ)) (gs : List (List ℕ)) → length ts ≡ length gs
+    → allOf (goodFrame tracks last) (framesOf ts gs) ≡ true → occurrences 0 (numbersOf gs) ≡ 0
+numbers-from-one tracks last ts gs e g = ap (occurrences 0) (sym (frame-numbers ts gs e)) ∙ no-zero tracks last (framesOf ts gs) g

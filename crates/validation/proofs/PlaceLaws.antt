@@ -11,7 +11,7 @@ use lib.Seq.{drop-cons}
 use borrow.Author.Tests.{ltb-true, ltb-false, lt-ltb, le-ltb}
 use Rattle.laws.proofs.BoolLaws.{split}
 use Rattle.buffer_state.specs.WellFormed.{allOf}
-use Rattle.validation.specs.Places.{placed}
+use Rattle.validation.specs.Tests.{placed}
 
 module _ {A : Type 0} (used past : A → Bool) where
   -- the parts of an array

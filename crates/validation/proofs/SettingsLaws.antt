@@ -10,7 +10,7 @@ use Rattle.seconds.specs.declared.Micros.{Micros}
 use Rattle.seconds.specs.declared.Micros.the-variants.{At, Refused}
 use Rattle.buffer_state.specs.Limits.{resultTime}
 use Rattle.buffer_state.specs.WellFormed.{converts}
-use Rattle.validation.proofs.LimitLaws.{time-mag}
+use Rattle.limits.proofs.LimitLaws.{time-mag}
 
 -- an answer that is these microseconds
 abbrev pub isAt : ℤ → Micros → Bool

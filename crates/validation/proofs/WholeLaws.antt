@@ -1,64 +1,64 @@
--- The whole test from its parts: where the counts are inside the arrays, what is left to ask; where they are not, false.
-use mathlib.Core.Path.{_≡_, refl, sym}
+-- The whole test from the parts that are made: the counts, the head, the frames.
+use mathlib.Core.Path.{_≡_, refl, sym, _∙_}
 use mathlib.Core.Bool.{Bool, true, false, _&&_, and-false}
 use mathlib.Core.List.{List}
-use Prim.Native.Nat.{_≤_, _<_}
-use native.Mathlib.Omega.{arith}
-use lib.ListN.{length, take, drop}
-use borrow.Author.Tests.{le-leb, lt-leb, eq-eqb}
-use Rattle.laws.proofs.ListLaws.{first-length}
-use Rattle.buffer_state.specs.declared.Frame.{Frame}
-use Rattle.buffer_state.specs.declared.State.{State}
-use Rattle.buffer_state.specs.Layout.{isZeroFrame, isZeroTrack, laidOut, wellFormed}
-use Rattle.buffer_state.specs.WellFormed.{allOf, goodTrack, goodTracks, goodFrame, goodFrames, sorted, distinctNumbers, goodGroup, goodSettings, goodBuffer}
-use Rattle.validation.specs.Places.{placed, framesPlaced}
-use Rattle.validation.proofs.PlaceLaws.{placed-parts}
+use Prim.Native.Nat.{ℕ, _≤_, _<_}
+use lib.Dec.{leb, eqb}
+use lib.IntN.{ℤ}
+use lib.ListN.{length, take}
+use borrow.Author.Tests.{leb-true, leb-false, eq-eqb}
+use Rattle.laws.proofs.BoolLaws.{split, and-left, and-right, and-both}
+use Rattle.buffer_state.specs.declared.Head.{Head}
+use Rattle.buffer_state.specs.Layout.{isZeroFrame, isZeroTrack, wellFormed}
+use Rattle.buffer_state.specs.Lent.{framesOf, Lengths, stateAt, plainTime, plainTag, wellFormedAt}
+use Rattle.buffer_state.specs.Limits.{places}
+use Rattle.buffer_state.specs.WellFormed.{allOf, goodTrack, goodFrame, goodGroup, goodSettings, sorted, distinctNumbers}
+use Rattle.buffer_laws.proofs.RowLaws.{frames-length}
+use Rattle.validation.specs.Tests.{placed, headTest, framesTest}
+use Rattle.validation.proofs.StateLaws.{too-many-frames, too-many-tracks, no-tracks, whole}
 
 -- the order in which the tests are made
-reordered : (a z t y s d r : Bool) → ((z && y) && (t && ((a && (s && d)) && r))) ≡ ((t && y) && ((((a && z) && s) && d) && r))
-reordered a false false y s d r = refl
-reordered a false true false s d r = refl
-reordered false false true true s d r = refl
-reordered true false true true s d r = refl
-reordered a true false false s d r = refl
-reordered a true false true s d r = refl
-reordered false true true y s d r = refl
-reordered true true true y s d r = refl
+reordered : (p q t f d r : Bool) → (p && (q && (t && ((f && d) && r)))) ≡ ((t && r) && (p && (q && (f && d))))
+reordered false q t f d r = sym (and-false (t && r))
+reordered true false t f d r = sym (and-false (t && r))
+reordered true true false f d r = refl
+reordered true true true false d r = sym (and-false r)
+reordered true true true true false r = sym (and-false r)
+reordered true true true true true true = refl
+reordered true true true true true false = refl
 
-module _ (s : State) (frames : length (s .frames) ≡ 1024) (tracks : length (s .tracks) ≡ 4) where
-  pub too-many-frames : 1024 < s .nframes → wellFormed s ≡ false
-  unfolding wellFormed laidOut
-  too-many-frames h = rw (eq-eqb _ _ frames, eq-eqb _ _ tracks, lt-leb (s .nframes) 1024 h)
+module _ (h : Head) (ts : List (List ℤ)) (gs : List (List ℕ)) (k : Lengths ts gs) (full : length (h .tracks) ≡ 4) where
+  all : length (framesOf ts gs) ≡ 1024
+  all = frames-length ts gs (k .0 ∙ sym (k .1)) ∙ k .0
 
-  pub too-many-tracks : s .nframes ≤ 1024 → 4 < s .ntracks → wellFormed s ≡ false
-  unfolding wellFormed laidOut
-  too-many-tracks n h = rw (eq-eqb _ _ frames, eq-eqb _ _ tracks, le-leb (s .nframes) 1024 n, lt-leb (s .ntracks) 4 h)
+  ill : wellFormed (stateAt h ts gs) ≡ false → wellFormedAt h ts gs ≡ false
+  unfolding wellFormedAt
+  ill e = rw (e, and-false (allOf plainTag gs), and-false (allOf plainTime ts)) (and-false (eqb (length ts) places && eqb (length gs) places))
 
-  pub no-tracks : s .ntracks ≤ 4 → s .ntracks < 1 → wellFormed s ≡ false
-  unfolding wellFormed goodBuffer goodTracks
-  no-tracks m h = rw (first-length (s .tracks) (s .ntracks) (omega arith), lt-leb 1 (s .ntracks) h) (and-false (laidOut s))
+  -- the arrays have their 1,024 rows
+  long : (eqb (length ts) places && eqb (length gs) places) ≡ true
+  long = and-both (eq-eqb (length ts) places (k .0)) (eq-eqb (length gs) places (k .1))
 
-  pub whole : s .nframes ≤ 1024 → s .ntracks ≤ 4 → 1 ≤ s .ntracks → s .last ≤ 4294967295
-      → (placed goodTrack isZeroTrack (s .ntracks) (s .tracks)
-      && ((framesPlaced s && distinctNumbers (take (s .nframes) (s .frames))) && (goodGroup (s .group) && goodSettings (s .settings))))
-      ≡ wellFormed s
-  unfolding wellFormed laidOut goodBuffer goodTracks goodFrames
-  whole n m some last =
-      let stored : List Frame = take (s .nframes) (s .frames) in
-      rw (
-        eq-eqb _ _ frames,
-        eq-eqb _ _ tracks,
-        le-leb (s .nframes) 1024 n,
-        le-leb (s .ntracks) 4 m,
-        le-leb (s .last) 4294967295 last,
-        first-length (s .tracks) (s .ntracks) (omega arith),
-        first-length (s .frames) (s .nframes) (omega arith),
-        le-leb 1 (s .ntracks) some,
-        le-leb (s .ntracks) 4 m,
-        le-leb (s .nframes) 1024 n,
-        placed-parts (goodFrame (s .ntracks) (s .last)) isZeroFrame,
-        placed-parts goodTrack isZeroTrack,
-      )
-      (sym (reordered (allOf (goodFrame (s .ntracks) (s .last)) stored) (allOf isZeroFrame (drop (s .nframes) (s .frames)))
-      (allOf goodTrack (take (s .ntracks) (s .tracks))) (allOf isZeroTrack (drop (s .ntracks) (s .tracks)))
-      (sorted stored) (distinctNumbers stored) (goodGroup (s .group) && goodSettings (s .settings))))
+  pub too-many : 1024 < h .nframes → wellFormedAt h ts gs ≡ false
+  too-many m = ill (too-many-frames (stateAt h ts gs) all full m)
+
+  pub well-formed-parts : h .nframes ≤ 1024 → h .last ≤ 4294967295 → wellFormedAt h ts gs ≡ (headTest h && framesTest (h .nframes) (h .ntracks) (h .last) ts gs)
+  unfolding wellFormedAt headTest framesTest
+  well-formed-parts few last =
+      let s = stateAt h ts gs in
+      split (leb (h .ntracks) 4)
+      (λ b.
+      let m : h .ntracks ≤ 4 = leb-true (h .ntracks) 4 b in
+      split (leb 1 (h .ntracks))
+      (λ a.
+      rw (long, a, b, ← whole s all full few m (leb-true 1 (h .ntracks) a) last)
+      (reordered (allOf plainTime ts) (allOf plainTag gs) (placed goodTrack isZeroTrack (h .ntracks) (h .tracks))
+      (placed (goodFrame (h .ntracks) (h .last)) isZeroFrame (h .nframes) (framesOf ts gs) && sorted (take (h .nframes) (framesOf ts gs))) (distinctNumbers (take (h .nframes) (framesOf ts gs)))
+      (goodGroup (h .group) && goodSettings (h .settings))))
+      (λ a. rw a (ill (no-tracks s all full m (leb-false 1 (h .ntracks) a)))))
+      (λ b. rw (b, and-false (leb 1 (h .ntracks))) (ill (too-many-tracks s all full few (leb-false (h .ntracks) 4 b))))
+
+-- a head that passes has at most four tracks
+pub head-width : (h : Head) → headTest h ≡ true → h .ntracks ≤ 4
+unfolding headTest
+head-width h e = leb-true (h .ntracks) 4 (and-right (leb 1 (h .ntracks)) _ (and-left _ _ e))

@@ -1,116 +1,42 @@
-// Whether a state is well-formed, for every state whatever: garbage in any field is answered, never read past or added up.
+// The well-formed test on a head and two lent arrays, for whatever they hold: garbage in any field is answered, never read past or added up.
 ghost use mathlib.Core.Path.{_≡_};
-ghost use mathlib.Core.Bool.{true, cond, _&&_};
-ghost use Prim.Native.Nat.{_≤_};
-ghost use lib.Dec.{eqb};
+ghost use mathlib.Core.Bool.{true, false, cond, _&&_};
+ghost use Prim.Native.Nat.{_≤_, _-_};
+ghost use lib.Dec.{eqb, ltb};
 ghost use lib.IntN.{pos};
-ghost use lib.Signed.{leZ, ltZ};
-ghost use mathlib.Core.List.{map};
-ghost use lib.ListN.{take};
+ghost use lib.ListN.{length, take, drop};
+ghost use lib.Signed.{leZ};
 ghost use Rattle.seconds.specs.Seconds.{sameInt};
-ghost use Rattle.buffer_state.specs.Limits.{resultTime, goodDuration};
+ghost use Rattle.sorting.specs.Sorting.{following};
 ghost use Rattle.buffer_state.specs.Buffer.{endOf};
+ghost use Rattle.buffer_state.specs.Layout.{zeroFrame, isZeroTrack};
+ghost use Rattle.buffer_state.specs.Lent.{frameOf, Lengths, plainTime, plainTag, wellFormedAt};
+ghost use Rattle.buffer_state.specs.Limits.{resultTime, goodDuration};
 ghost use Rattle.buffer_state.specs.Store.{before};
-ghost use Rattle.buffer_state.specs.WellFormed.{goodTrack, goodFrame, distinctNumbers, goodGroup, converts, goodOffset, goodStart, goodEnd, goodSettings};
-ghost use Rattle.buffer_state.specs.Layout.{isZeroFrame, isZeroTrack, wellFormed};
-ghost use Rattle.sorting.specs.Sorting.{noNeighbours};
-ghost use Rattle.validation.specs.Places.{placed, framesPlaced, numberOf};
+ghost use Rattle.buffer_state.specs.WellFormed.{allOf, goodTrack, goodFrame, goodGroup, converts, goodOffset, goodStart, goodEnd, goodSettings};
+ghost use Rattle.numbers.specs.Numbers.{numbersOf};
+ghost use Rattle.validation.specs.Tests.{placed, isZeroTime, isZeroTag, goodRow, rowsFrom, headTest, framesTest};
 use buffer_state::Frame;
 use buffer_state::Group;
+use buffer_state::Head;
 use buffer_state::Setting;
 use buffer_state::Settings;
-use buffer_state::State;
 use buffer_state::Track;
 use buffer_state::WindowEnd;
 use seconds::Micros;
-
-// ---- integers
-
-pub fn at_most(a: i64, b: i64) -> bool
-    ensures { λ r. ⌜ r ≡ leZ a b ⌝ }
-{
-    a <= b
-}
-
-pub fn below(a: i64, b: i64) -> bool
-    ensures { λ r. ⌜ r ≡ ltZ a b ⌝ }
-{
-    a < b
-}
-
-pub fn same_int(a: i64, b: i64) -> bool
-    ensures { λ r. ⌜ r ≡ sameInt a b ⌝ }
-{
-    at_most(a, b) & at_most(b, a)
-}
-
-// ---- limits
-
-// A time inside the result limits.
-pub fn result_time(z: i64) -> bool
-    ensures { λ r. ⌜ r ≡ resultTime z ⌝ }
-{
-    at_most(-4000000000000, z) & at_most(z, 4000000000000)
-}
-
-pub fn good_duration(n: u32) -> bool
-    ensures { λ r. ⌜ r ≡ goodDuration n ⌝ }
-{
-    (1 <= n) & (n <= 10000000)
-}
-
-// ---- a frame
-
-// A frame's end. Its presentation time has been tested, so the sum fits.
-pub fn end_of(f: Frame) -> i64
-    requires { ⌜ resultTime (f .pts) ≡ true ⌝ }
-    ensures { λ r. ⌜ r ≡ endOf f ⌝ }
-{
-    let p = f.pts;
-    let d = f.duration as i64;
-    p + d
-}
-
-// The presentation time and the end inside the limits.
-fn good_span(f: Frame) -> bool
-    ensures { λ r. ⌜ r ≡ (resultTime (f .pts) && resultTime (endOf f)) ⌝ }
-{
-    if !result_time(f.pts) {
-        return false;
-    }
-    result_time(end_of(f))
-}
-
-fn good_frame(f: Frame, tracks: usize, last: u32) -> bool
-    ensures { λ r. ⌜ r ≡ goodFrame tracks last f ⌝ }
-{
-    let numbers = (1 <= f.track)
-        & (f.track as usize <= tracks)
-        & (1 <= f.number)
-        & (f.number <= last);
-    let times = at_most(0, f.pts) & good_span(f) & result_time(f.dts);
-    numbers & times & good_duration(f.duration)
-}
-
-fn is_zero_frame(f: Frame) -> bool
-    ensures { λ r. ⌜ r ≡ isZeroFrame f ⌝ }
-{
-    let numbers = (f.duration == 0) & ((f.number == 0) & (same_int(f.pts, 0) & same_int(f.dts, 0)));
-    (f.track == 0) & (!f.flagged & numbers)
-}
 
 // ---- a track
 
 fn zero_three(t: Track) -> bool
     ensures { λ r. ⌜ r ≡ (sameInt (t .dts) (pos 0) && (eqb (t .duration) 0 && sameInt (t .end) (pos 0))) ⌝ }
 {
-    same_int(t.dts, 0) & ((t.duration == 0) & same_int(t.end, 0))
+    limits::same_int(t.dts, 0) & ((t.duration == 0) & limits::same_int(t.end, 0))
 }
 
 fn good_three(t: Track) -> bool
     ensures { λ r. ⌜ r ≡ (resultTime (t .dts) && (goodDuration (t .duration) && resultTime (t .end))) ⌝ }
 {
-    result_time(t.dts) & (good_duration(t.duration) & result_time(t.end))
+    limits::result_time(t.dts) & (limits::good_duration(t.duration) & limits::result_time(t.end))
 }
 
 fn good_track(t: Track) -> bool
@@ -128,7 +54,7 @@ fn good_track(t: Track) -> bool
 fn is_zero_track(t: Track) -> bool
     ensures { λ r. ⌜ r ≡ isZeroTrack t ⌝ }
 {
-    let numbers = (t.duration == 0) & (same_int(t.dts, 0) & same_int(t.end, 0));
+    let numbers = (t.duration == 0) & (limits::same_int(t.dts, 0) & limits::same_int(t.end, 0));
     (t.kind == 0) & (!t.known & (!t.need & numbers))
 }
 
@@ -137,13 +63,13 @@ fn is_zero_track(t: Track) -> bool
 fn good_group(g: Group) -> bool
     ensures { λ r. ⌜ r ≡ goodGroup g ⌝ }
 {
-    if !result_time(g.end) {
+    if !limits::result_time(g.end) {
         return false;
     }
     if g.begun {
-        return result_time(g.start);
+        return limits::result_time(g.start);
     }
-    same_int(g.start, 0)
+    limits::same_int(g.start, 0)
 }
 
 // ---- the settings
@@ -154,7 +80,7 @@ fn converts_to(x: f64, z: i64) -> bool
 {
     let m = seconds::micros_of(x);
     match m {
-        Micros::At(y) => same_int(y, z),
+        Micros::At(y) => limits::same_int(y, z),
         Micros::Refused => false,
     }
 }
@@ -165,7 +91,7 @@ fn good_offset(o: Setting) -> bool
 {
     let x = o.seconds;
     let z = o.micros;
-    if !result_time(z) {
+    if !limits::result_time(z) {
         return false;
     }
     converts_to(x, z) | seconds::same_double(x, seconds::seconds_of(z))
@@ -176,15 +102,15 @@ fn good_start(o: Setting) -> bool
 {
     let x = o.seconds;
     let z = o.micros;
-    at_most(0, z) & converts_to(x, z)
+    limits::at_most(0, z) & converts_to(x, z)
 }
 
 fn good_end(start: i64, end: WindowEnd, limit: i64) -> bool
     ensures { λ r. ⌜ r ≡ goodEnd start end limit ⌝ }
 {
     match end {
-        WindowEnd::Unbounded => same_int(limit, 0),
-        WindowEnd::At(x) => converts_to(x, limit) & below(start, limit),
+        WindowEnd::Unbounded => limits::same_int(limit, 0),
+        WindowEnd::At(x) => converts_to(x, limit) & limits::below(start, limit),
     }
 }
 
@@ -197,7 +123,7 @@ fn good_settings(t: Settings) -> bool
     good_offset(o) & (good_start(w) & good_end(w.micros, e, t.limit))
 }
 
-// ---- the tracks
+// ---- the head
 
 fn track_place(t: Track, used: bool) -> bool
     ensures { λ r. ⌜ r ≡ cond used (goodTrack t) (isZeroTrack t) ⌝ }
@@ -208,13 +134,14 @@ fn track_place(t: Track, used: bool) -> bool
     is_zero_track(t)
 }
 
-fn tracks_placed(s: State) -> bool
-    ensures { λ r. ⌜ r ≡ placed goodTrack isZeroTrack (s .ntracks) (s .tracks) ⌝ }
+// The tracks of a head: good up to the count, zeros past it.
+fn tracks_placed(h: Head) -> bool
+    ensures { λ r. ⌜ r ≡ placed goodTrack isZeroTrack (h .ntracks) (h .tracks) ⌝ }
 {
-    let n = s.ntracks;
+    let n = h.ntracks;
     let mut i: usize = 0;
     while i < 4 {
-        let t = s.tracks[i];
+        let t = h.tracks[i];
         if !track_place(t, i < n) {
             return false;
         }
@@ -223,102 +150,229 @@ fn tracks_placed(s: State) -> bool
     true
 }
 
-// ---- the frames
-
-// A place of the frames: where it is in use a good frame that comes after the one before it, zeros past the count.
-fn frame_place(previous: Frame, f: Frame, used: bool, tracks: usize, last: u32) -> bool
-    ensures { λ r. ⌜ r ≡ cond used (before previous f && goodFrame tracks last f) (isZeroFrame f) ⌝ }
+fn good_head(h: Head) -> bool
+    ensures { λ r. ⌜ r ≡ headTest h ⌝ }
 {
-    if used {
-        return store::frame_before(previous, f) & good_frame(f, tracks, last);
+    if 4 < h.ntracks {
+        return false;
     }
-    is_zero_frame(f)
+    if h.ntracks < 1 {
+        return false;
+    }
+    let g = h.group;
+    let t = h.settings;
+    tracks_placed(h) & (good_group(g) & good_settings(t))
 }
 
-fn number_of(f: Frame) -> u64
-    ensures { λ r. ⌜ r ≡ f .number ⌝ }
+// ---- a row
+
+// A row has its numbers. This tells a proof so, and is no work.
+fn two(time: [i64; 2])
+    ensures { λ r. ⌜ length time ≡ 2 ⌝ }
+{}
+
+fn four(tag: [u32; 4])
+    ensures { λ r. ⌜ length tag ≡ 4 ⌝ }
+{}
+
+// ---- zeros past the count
+
+// By columns, and one test at the end: a loop without branches.
+fn no_times(times: &[[i64; 2]], n: usize) -> bool
+    requires { ⌜ n ≤ length (now times) ⌝ }
+    ensures { λ r. ⌜ r ≡ allOf isZeroTime (drop n (now (times .entry))) ⌝ }
 {
-    f.number as u64
+    let mut a: i64 = 0;
+    let mut b: i64 = 0;
+    let mut i = n;
+    while i < times.len() {
+        let t = times[i];
+        two(t);
+        a = a | t[0];
+        b = b | t[1];
+        i += 1;
+    }
+    (a | b) == 0
 }
 
-// What one pass over the frames finds: whether each place is as it must be, and the numbers.
+fn no_tags(tags: &[[u32; 4]], n: usize) -> bool
+    requires { ⌜ n ≤ length (now tags) ⌝ }
+    ensures { λ r. ⌜ r ≡ allOf isZeroTag (drop n (now (tags .entry))) ⌝ }
+{
+    let mut a: u32 = 0;
+    let mut b: u32 = 0;
+    let mut c: u32 = 0;
+    let mut d: u32 = 0;
+    let mut i = n;
+    while i < tags.len() {
+        let t = tags[i];
+        four(t);
+        a = a | t[0];
+        b = b | t[1];
+        c = c | t[2];
+        d = d | t[3];
+        i += 1;
+    }
+    ((a | b) | (c | d)) == 0
+}
+
+// ---- a row in use
+
+// The flag is 0 or 1.
+fn plain_rows(time: [i64; 2], tag: [u32; 4]) -> bool
+    ensures { λ r. ⌜ r ≡ (plainTime time && plainTag tag) ⌝ }
+{
+    tag[1] <= 1
+}
+
+// The latest presentation time at which a frame of this duration ends inside the limits.
+fn latest_start(duration: u32) -> i64
+    ensures { λ r. ⌜ r ≡ pos (4000000000000 - duration) ⌝ }
+{
+    (4000000000000 - duration as u64) as i64
+}
+
+// The presentation time is at least 0, and with the end it is inside the limits: two comparisons for three tests.
+fn good_span(f: Frame) -> bool
+    ensures { λ r. ⌜ r ≡ (leZ (pos 0) (f .pts) && (resultTime (f .pts) && resultTime (endOf f))) ⌝ }
+{
+    limits::at_most(0, f.pts) & limits::at_most(f.pts, latest_start(f.duration))
+}
+
+// Each test leaves at once where it fails: branches that are never taken cost less than bits that are gathered.
+fn good_frame(f: Frame, tracks: u32, last: u32) -> bool
+    ensures { λ r. ⌜ r ≡ goodFrame tracks last f ⌝ }
+{
+    if !((1 <= f.track) & (f.track <= tracks)) {
+        return false;
+    }
+    if !((1 <= f.number) & (f.number <= last)) {
+        return false;
+    }
+    if !limits::good_duration(f.duration) {
+        return false;
+    }
+    if !limits::result_time(f.dts) {
+        return false;
+    }
+    good_span(f)
+}
+
+fn good_row(time: [i64; 2], tag: [u32; 4], tracks: u32, last: u32) -> bool
+    ensures { λ r. ⌜ r ≡ goodRow tracks last time tag ⌝ }
+{
+    if !plain_rows(time, tag) {
+        return false;
+    }
+    good_frame(places::frame_of(time, tag), tracks, last)
+}
+
+// Whether one row comes before another in store order.
+fn row_before(time: [i64; 2], tag: [u32; 4], next: [i64; 2], mark: [u32; 4]) -> bool
+    ensures { λ r. ⌜ r ≡ before (frameOf time tag) (frameOf next mark) ⌝ }
+{
+    places::frame_before(places::frame_of(time, tag), places::frame_of(next, mark))
+}
+
+// ---- the rows in use
+
+// What one pass over the rows in use finds.
 struct Examined {
     good: bool,
-    numbers: [u64; 1024],
+    rising: bool, // their numbers rise, so no two are equal
 }
 
-// One pass, since each function that reads the frames by an index copies the state. A zero frame comes before every good one.
-fn examine(s: State) -> Examined
-    requires { ⌜ s .nframes ≤ 1024 ⌝ }
-    ensures { λ r. ⌜ r .good ≡ framesPlaced s ⌝ }
-    ensures { λ r. ⌜ r .numbers ≡ map numberOf (s .frames) ⌝ }
+fn faulty() -> Examined
+    ensures { λ r. ⌜ (r .good ≡ false) × (r .rising ≡ false) ⌝ }
 {
-    let n = s.nframes;
-    let tracks = s.ntracks;
-    let last = s.last;
-    let mut previous = Frame {
-        track: 0,
-        flagged: false,
-        duration: 0,
-        number: 0,
-        pts: 0,
-        dts: 0,
-    };
-    let mut good = true;
-    let mut numbers = [0u64; 1024];
-    let mut i: usize = 0;
-    while i < 1024 {
-        let f = s.frames[i];
-        good = good & frame_place(previous, f, i < n, tracks, last);
-        numbers[i] = number_of(f);
-        previous = f;
-        i += 1;
+    Examined {
+        good: false,
+        rising: false,
     }
-    Examined { good, numbers }
 }
 
-// No number equals the next.
-fn apart(a: [u64; 1024], n: usize) -> bool
-    requires { ⌜ n ≤ 1024 ⌝ }
-    ensures { λ r. ⌜ r ≡ noNeighbours (take n a) ⌝ }
+// Whether the rows in use are good and in store order. The row before is read again: to carry its numbers costs registers.
+fn examine(times: &[[i64; 2]], tags: &[[u32; 4]], n: usize, tracks: u32, last: u32) -> Examined
+    requires { ⌜ (n ≤ length (now times)) × (n ≤ length (now tags)) ⌝ }
+    ensures { λ r. ⌜ r .good ≡ rowsFrom tracks last zeroFrame (take n (now (times .entry))) (take n (now (tags .entry))) ⌝ }
+    ensures { λ r. ⌜ (r .rising ≡ true → following ltb 0 (numbersOf (take n (now (tags .entry)))) ≡ true) ⌝ }
 {
-    let mut i: usize = 0;
-    while i + 1 < n {
-        if a[i] == a[i + 1] {
-            return false;
+    if n == 0 {
+        return Examined {
+            good: true,
+            rising: true,
+        };
+    }
+    let first = times[0];
+    let mark = tags[0];
+    if !good_row(first, mark, tracks, last) {
+        return faulty();
+    }
+    let mut rising = true;
+    let mut i: usize = 1;
+    while i < n {
+        let time = times[i];
+        let tag = tags[i];
+        if !good_row(time, tag, tracks, last) {
+            return faulty();
         }
+        let j = i - 1;
+        let t = times[j];
+        let g = tags[j];
+        if !row_before(t, g, time, tag) {
+            return faulty();
+        }
+        rising = rising & (numbers::number_of(g) < numbers::number_of(tag));
         i += 1;
     }
-    true
+    Examined {
+        good: true,
+        rising: rising,
+    }
 }
 
-// The frames in their places and in store order, no two with one number: sorted, no two neighbours are equal.
-fn good_frames(s: State) -> bool
-    requires { ⌜ s .nframes ≤ 1024 ⌝ }
-    ensures { λ r. ⌜ r ≡ (framesPlaced s && distinctNumbers (take (s .nframes) (s .frames))) ⌝ }
+// ---- the whole
+
+fn good_frames(times: &[[i64; 2]], tags: &[[u32; 4]], n: usize, tracks: u32, last: u32) -> bool
+    requires { ⌜ (n ≤ 1024) × Lengths (now times) (now tags) ⌝ }
+    ensures { λ r. ⌜ r ≡ framesTest n tracks last (now (times .entry)) (now (tags .entry)) ⌝ }
 {
-    let n = s.nframes;
-    let found = examine(s);
-    let given = found.numbers;
-    let risen = sorting::sort(given, n);
-    found.good & apart(risen, n)
+    if !no_times(times, n) {
+        return false;
+    }
+    if !no_tags(tags, n) {
+        return false;
+    }
+    let found = examine(times, tags, n, tracks, last);
+    if !found.good {
+        return false;
+    }
+    if found.rising {
+        return true;
+    }
+    numbers::distinct(tags, n)
 }
 
-// ---- the state
-
-pub fn well_formed(s: State) -> bool
-    ensures { λ r. ⌜ r ≡ wellFormed s ⌝ }
+// For a caller that holds slices.
+pub fn is_well_formed(h: Head, times: &[[i64; 2]], tags: &[[u32; 4]]) -> bool
+    requires { ⌜ Lengths (now times) (now tags) ⌝ }
+    ensures { λ r. ⌜ r ≡ wellFormedAt h (now (times .entry)) (now (tags .entry)) ⌝ }
 {
-    if 1024 < s.nframes {
+    let n = h.nframes;
+    if 1024 < n {
         return false;
     }
-    if 4 < s.ntracks {
+    if !good_head(h) {
         return false;
     }
-    if s.ntracks < 1 {
-        return false;
-    }
-    let g = s.group;
-    let t = s.settings;
-    tracks_placed(s) & (good_frames(s) & (good_group(g) & good_settings(t)))
+    let tracks = h.ntracks as u32;
+    let last = h.last;
+    good_frames(times, tags, n, tracks, last)
+}
+
+// The test with which every call on a state begins.
+pub fn well_formed(h: Head, times: &[[i64; 2]; 1024], tags: &[[u32; 4]; 1024]) -> bool
+    ensures { λ r. ⌜ r ≡ wellFormedAt h (now (times .entry)) (now (tags .entry)) ⌝ }
+{
+    is_well_formed(h, times, tags)
 }

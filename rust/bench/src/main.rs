@@ -1,20 +1,18 @@
-//! Times the calls of the frame buffer, for any number of implementations side by side.
+//! Times the calls of the proved library beside those of the second implementation.
 //!
-//! Prints one table: the time of a call in microseconds, the median of several rounds. The
-//! implementations take turns within a round, so that a busy moment hits all of them.
+//! Prints the table of `docs/PERFORMANCE.md`: the time of a call in microseconds, the median of
+//! several rounds. The two take turns within a round, so that a busy moment hits both.
 
 #![forbid(unsafe_code)]
 
 mod measure;
 mod table;
 
-use measure::{Measure, Runner};
+use measure::Runner;
 use script::{Proved, Second};
 
 fn main() {
-    let mut runners: Vec<Box<dyn Measure>> = vec![
-        Box::new(Runner::new("second", Second::<()>::default())),
-        Box::new(Runner::new("proved", Proved)),
-    ];
-    print!("{}", table::markdown(&mut runners));
+    let mut proved = Runner::new(Proved);
+    let mut second = Runner::new(Second::<()>::default());
+    print!("{}", table::report(&mut proved, &mut second));
 }

@@ -4,7 +4,7 @@ use std::hint::black_box;
 use std::time::Instant;
 
 use script::Subject;
-use second::{Fate, Offered, Stretch, FRAME_PLACES};
+use second::{Fate, Mode, Offered, Stretch, FRAME_PLACES};
 
 /// A frame lasts 40 ms: 25 frames a second.
 const FRAME: u32 = 40_000;
@@ -24,13 +24,15 @@ const CALLS: usize = 200;
 /// What is timed.
 #[derive(Clone, Copy, Debug, PartialEq, Eq)]
 pub enum Case {
+    /// Creating a buffer of so many tracks.
+    Create(u32),
     /// A call on a buffer of so many tracks that holds so many frames.
     Call(Call, u32, usize),
     /// An append of the survey line, with its share of the removals.
     Survey,
 }
 
-/// A call.
+/// A call on a buffer.
 #[derive(Clone, Copy, Debug, PartialEq, Eq)]
 pub enum Call {
     /// A frame that goes on after the last; refused in a full store.
@@ -39,25 +41,32 @@ pub enum Call {
     AppendOver,
     /// The oldest second goes.
     Remove,
-    /// A track's report.
-    Ranges,
-    /// The common report.
-    Common,
+    /// An abort.
+    Abort,
+    /// Setting sequence mode.
+    SetMode,
     /// Setting the offset.
     SetOffset,
+    /// Setting the window start.
+    SetWindowStart,
+    /// Setting the window end.
+    SetWindowEnd,
+    /// Reading the settings back.
+    ReadSettings,
+    /// A track's report.
+    TrackRanges,
+    /// The common report.
+    CommonRanges,
 }
 
 /// An implementation to be timed, whatever its state.
 pub trait Measure {
-    /// Its name.
-    fn name(&self) -> &'static str;
     /// One round of a case: microseconds a call.
     fn round(&mut self, case: Case) -> f64;
 }
 
 /// The [`Measure`] of a [`Subject`].
 pub struct Runner<S> {
-    name: &'static str,
     subject: S,
     fates: Vec<Fate>,
     ranges: Vec<Stretch>,
@@ -65,9 +74,8 @@ pub struct Runner<S> {
 
 impl<S: Subject> Runner<S> {
     /// A runner with its lists to lend.
-    pub fn new(name: &'static str, subject: S) -> Self {
+    pub fn new(subject: S) -> Self {
         Self {
-            name,
             subject,
             fates: vec![[0; 2]; FRAME_PLACES],
             ranges: vec![[0; 2]; FRAME_PLACES],
@@ -76,8 +84,7 @@ impl<S: Subject> Runner<S> {
 
     /// A buffer with frames, spread evenly over its tracks.
     fn filled(&mut self, tracks: u32, frames: usize) -> S::State {
-        let kinds: Vec<u32> = (0..tracks).map(|track| track % 2).collect();
-        let mut state = self.subject.create(&kinds).expect("a buffer");
+        let mut state = self.subject.create(&kinds(tracks)).expect("a buffer");
         for number in 0..frames {
             let offered = frame(tracks, number);
             let appended = self.subject.append(&mut state, &offered, &mut self.fates);
@@ -86,45 +93,59 @@ impl<S: Subject> Runner<S> {
         state
     }
 
+    /// The median time of a creation.
+    fn create(&mut self, tracks: u32) -> f64 {
+        let kinds = kinds(tracks);
+        let mut state = self.filled(tracks, 0);
+        let mut create = || {
+            let start = Instant::now();
+            state = self.subject.create(black_box(&kinds)).expect("a buffer");
+            black_box(&mut state);
+            micros_since(start)
+        };
+        median((0..CALLS).map(|_| create()).collect())
+    }
+
     /// The median time of a call, each on a copy of the same state.
-    fn time(&mut self, call: Call, tracks: u32, frames: usize) -> f64 {
+    fn call(&mut self, call: Call, tracks: u32, frames: usize) -> f64 {
         let mut held = self.filled(tracks, frames);
         if call == Call::AppendOver {
             self.subject.abort(&mut held).expect("an abort");
         }
+        let offered = match call {
+            Call::AppendOver => Offered {
+                flagged: true,
+                ..frame(tracks, frames / 2)
+            },
+            _ => frame(tracks, frames),
+        };
         let mut state = held.clone();
-        let mut times: Vec<f64> = (0..CALLS)
-            .map(|_| {
-                state.clone_from(&held);
-                let start = Instant::now();
-                let _ = black_box(self.make(call, black_box(&mut state), tracks, frames));
-                start.elapsed().as_secs_f64() * 1e6
-            })
-            .collect();
-        median(&mut times)
+        let mut time = || {
+            state.clone_from(&held);
+            let start = Instant::now();
+            let _ = black_box(self.make(call, black_box(&mut state), &offered));
+            micros_since(start)
+        };
+        median((0..CALLS).map(|_| time()).collect())
     }
 
-    fn make(
-        &mut self,
-        call: Call,
-        state: &mut S::State,
-        tracks: u32,
-        frames: usize,
-    ) -> Result<usize, u32> {
+    fn make(&mut self, call: Call, state: &mut S::State, offered: &Offered) -> Result<usize, u32> {
         let subject = &mut self.subject;
+        let done = |()| 0;
         match call {
-            Call::AppendLast => subject.append(state, &frame(tracks, frames), &mut self.fates),
-            Call::AppendOver => {
-                let offered = Offered {
-                    flagged: true,
-                    ..frame(tracks, frames / 2)
-                };
-                subject.append(state, &offered, &mut self.fates)
-            }
+            Call::AppendLast | Call::AppendOver => subject.append(state, offered, &mut self.fates),
             Call::Remove => subject.remove(state, 0.0, 1.0, &mut self.fates),
-            Call::Ranges => subject.track_ranges(state, 1, &mut self.ranges),
-            Call::Common => subject.common_ranges(state, &mut self.ranges),
-            Call::SetOffset => subject.set_offset(state, 0.0078125).map(|()| 0),
+            Call::Abort => subject.abort(state).map(done),
+            Call::SetMode => subject.set_mode(state, Mode::Sequence).map(done),
+            Call::SetOffset => subject.set_offset(state, 0.0078125).map(done),
+            Call::SetWindowStart => subject.set_window_start(state, 0.5).map(done),
+            Call::SetWindowEnd => subject.set_window_end(state, 60.0).map(done),
+            Call::ReadSettings => subject.read_settings(state).map(|reading| {
+                black_box(reading);
+                0
+            }),
+            Call::TrackRanges => subject.track_ranges(state, 1, &mut self.ranges),
+            Call::CommonRanges => subject.common_ranges(state, &mut self.ranges),
         }
     }
 
@@ -143,21 +164,23 @@ impl<S: Subject> Runner<S> {
             let appended = self.subject.append(&mut state, &offered, &mut self.fates);
             assert_eq!(appended, Ok(0), "a frame that is kept");
         }
-        start.elapsed().as_secs_f64() * 1e6 / SURVEY as f64
+        micros_since(start) / SURVEY as f64
     }
 }
 
 impl<S: Subject> Measure for Runner<S> {
-    fn name(&self) -> &'static str {
-        self.name
-    }
-
     fn round(&mut self, case: Case) -> f64 {
         match case {
-            Case::Call(call, tracks, frames) => self.time(call, tracks, frames),
+            Case::Create(tracks) => self.create(tracks),
+            Case::Call(call, tracks, frames) => self.call(call, tracks, frames),
             Case::Survey => self.survey(),
         }
     }
+}
+
+/// Video and audio by turns.
+fn kinds(tracks: u32) -> Vec<u32> {
+    (0..tracks).map(|track| track % 2).collect()
 }
 
 /// The n-th frame, from 0, of a buffer whose tracks take turns.
@@ -173,8 +196,12 @@ fn frame(tracks: u32, number: usize) -> Offered {
     }
 }
 
+fn micros_since(start: Instant) -> f64 {
+    start.elapsed().as_secs_f64() * 1e6
+}
+
 /// The middle one.
-pub fn median(times: &mut [f64]) -> f64 {
-    times.sort_by(f64::total_cmp);
-    times[times.len() / 2]
+pub fn median(mut numbers: Vec<f64>) -> f64 {
+    numbers.sort_by(f64::total_cmp);
+    numbers[numbers.len() / 2]
 }

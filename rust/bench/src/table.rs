@@ -1,100 +1,110 @@
 //! The rounds, and the table of their medians.
 
+use std::fmt;
+
 use crate::measure::{median, Call, Case, Measure};
 
 const ROUNDS: usize = 15;
 
+const TRACKS: [u32; 3] = [1, 2, 4];
+
 const SIZES: [usize; 4] = [0, 256, 512, 1024];
 
-const CALLS: [(Call, &str); 6] = [
-    (Call::AppendLast, "append after the last"),
+const CALLS: [(Call, &str); 11] = [
+    (
+        Call::AppendLast,
+        "append after the last (refused 8 at 1,024)",
+    ),
     (Call::AppendOver, "append over the middle"),
     (Call::Remove, "remove the oldest second"),
-    (Call::Ranges, "a track's ranges"),
-    (Call::Common, "common ranges"),
+    (Call::Abort, "abort"),
+    (Call::SetMode, "set the mode"),
     (Call::SetOffset, "set the offset"),
+    (Call::SetWindowStart, "set the window start"),
+    (Call::SetWindowEnd, "set the window end"),
+    (Call::ReadSettings, "read the settings"),
+    (Call::TrackRanges, "a track's ranges"),
+    (Call::CommonRanges, "common ranges"),
 ];
 
-/// A row of the table before its times: label, tracks, frames, and what is timed.
-struct Row {
-    cells: [String; 3],
-    case: Case,
+/// The median times of a case.
+#[derive(Clone, Copy)]
+struct Times {
+    proved: f64,
+    second: f64,
 }
 
-/// Times every case with every runner.
-pub fn markdown(runners: &mut [Box<dyn Measure>]) -> String {
-    let rows = rows();
-    let mut lines = vec![heading(runners)];
-    for (row, times) in rows.iter().zip(medians(runners, &rows)) {
-        lines.push(line(row, &times));
+impl Times {
+    fn ratio(&self) -> f64 {
+        self.proved / self.second
     }
-    lines.join("\n") + "\n"
 }
 
-fn rows() -> Vec<Row> {
-    let mut rows = Vec::new();
-    for tracks in [1, 2] {
-        for (call, name) in CALLS {
-            for frames in SIZES {
-                let label = match (call, frames) {
-                    (Call::AppendLast, 1024) => format!("{name} (refused 8)"),
-                    _ => name.to_string(),
-                };
-                rows.push(Row {
-                    cells: [label, tracks.to_string(), frames.to_string()],
-                    case: Case::Call(call, tracks, frames),
-                });
-            }
+impl fmt::Display for Times {
+    fn fmt(&self, f: &mut fmt::Formatter<'_>) -> fmt::Result {
+        let Self { proved, second } = self;
+        write!(f, "{proved:.2} / {second:.2} = {:.2}", self.ratio())
+    }
+}
+
+/// Times every case of both: the calls by tracks and sizes, then the survey line and the creations,
+/// which have no sizes. A creation is by value there and in place here, so that its ratio says
+/// little, and is not counted among the others.
+pub fn report(proved: &mut dyn Measure, second: &mut dyn Measure) -> String {
+    let mut cases = Vec::new();
+    for tracks in TRACKS {
+        for (call, _) in CALLS {
+            cases.extend(SIZES.map(|size| Case::Call(call, tracks, size)));
         }
     }
-    rows.push(Row {
-        cells: ["survey line, one append of 100,000", "1", "up to 1000"].map(str::to_string),
-        case: Case::Survey,
-    });
-    rows
+    cases.push(Case::Survey);
+    let compared = cases.len();
+    cases.extend(TRACKS.map(Case::Create));
+
+    let times = measured(&cases, proved, second);
+    let (compared, creations) = times.split_at(compared);
+    let survey = &compared[compared.len() - 1];
+    let ratios: Vec<f64> = compared.iter().map(Times::ratio).collect();
+    let greatest = ratios.iter().copied().fold(0.0, f64::max);
+    let middle = median(ratios);
+    let creations: Vec<String> = creations.iter().map(Times::to_string).collect();
+    format!(
+        "{}\n\
+         Survey line, one append of 100,000: {survey}.\n\
+         Creation, on 1, 2 and 4 tracks: {}.\n\
+         Ratios without creation: {middle:.2} in the median, {greatest:.2} at most.\n",
+        table(compared),
+        creations.join(", "),
+    )
 }
 
-/// For each row the median of each runner's rounds. A round goes through all rows and runners, so
-/// that a busy moment falls on a few of a row's rounds at most.
-fn medians(runners: &mut [Box<dyn Measure>], rows: &[Row]) -> Vec<Vec<f64>> {
-    let mut times = vec![vec![Vec::new(); runners.len()]; rows.len()];
+/// A line for each call on so many tracks, a cell for each size.
+fn table(times: &[Times]) -> String {
+    let mut text = String::from("| call | tracks | 0 frames | 256 | 512 | 1,024 |\n");
+    text.push_str("|---|---|---|---|---|---|\n");
+    let names = TRACKS
+        .into_iter()
+        .flat_map(|tracks| CALLS.map(|(_, name)| format!("{name} | {tracks}")));
+    for (name, times) in names.zip(times.chunks(SIZES.len())) {
+        let cells: Vec<String> = times.iter().map(Times::to_string).collect();
+        text.push_str(&format!("| {name} | {} |\n", cells.join(" | ")));
+    }
+    text
+}
+
+/// For each case the medians of its rounds. A round goes through all cases, so that a busy moment
+/// falls on a few rounds of a case at most.
+fn measured(cases: &[Case], proved: &mut dyn Measure, second: &mut dyn Measure) -> Vec<Times> {
+    let mut rounds = vec![(Vec::new(), Vec::new()); cases.len()];
     for _ in 0..ROUNDS {
-        for (row, times) in rows.iter().zip(&mut times) {
-            for (runner, times) in runners.iter_mut().zip(times) {
-                times.push(runner.round(row.case));
-            }
+        for (&case, (ones, others)) in cases.iter().zip(&mut rounds) {
+            ones.push(proved.round(case));
+            others.push(second.round(case));
         }
     }
-    let of_row = |mut row: Vec<Vec<f64>>| row.iter_mut().map(|times| median(times)).collect();
-    times.into_iter().map(of_row).collect()
-}
-
-/// The first runner is the measure of the others.
-fn heading(runners: &[Box<dyn Measure>]) -> String {
-    let mut cells = vec![
-        "Call".to_string(),
-        "Tracks".to_string(),
-        "Frames".to_string(),
-    ];
-    cells.extend(
-        runners
-            .iter()
-            .map(|runner| format!("{}, µs", runner.name())),
-    );
-    let rest = runners.iter().skip(1);
-    cells.extend(rest.map(|runner| format!("{} / {}", runner.name(), runners[0].name())));
-    let rule = vec!["---"; cells.len()].join("|");
-    format!("| {} |\n|{rule}|", cells.join(" | "))
-}
-
-fn line(row: &Row, times: &[f64]) -> String {
-    let mut cells = row.cells.to_vec();
-    cells.extend(times.iter().map(|time| format!("{time:.2}")));
-    cells.extend(
-        times
-            .iter()
-            .skip(1)
-            .map(|time| format!("{:.2}", time / times[0])),
-    );
-    format!("| {} |", cells.join(" | "))
+    let medians = |(ones, others)| Times {
+        proved: median(ones),
+        second: median(others),
+    };
+    rounds.into_iter().map(medians).collect()
 }

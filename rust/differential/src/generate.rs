@@ -38,6 +38,9 @@ const RESULTS: [i64; 13] = [
     -RESULT_LIMIT,
 ];
 
+/// No track, but track 1 to whoever cuts its number to a byte.
+const PAST_A_BYTE: u32 = 257;
+
 /// The script of a seed.
 pub fn script(seed: u64) -> Vec<String> {
     let mut writer = Writer::new(seed);
@@ -183,7 +186,9 @@ fn offered_limits(writer: &mut Writer) {
     writer.create_some();
     for _ in 0..writer.rng.between(5, 40) {
         let track = match writer.rng.percent(10) {
-            true => writer.rng.pick(&[0, writer.tracks + 1, u32::MAX]),
+            true => writer
+                .rng
+                .pick(&[0, writer.tracks + 1, PAST_A_BYTE, u32::MAX]),
             false => writer.track(),
         };
         let [pts, dts] = [(); 2].map(|()| match writer.rng.percent(10) {
@@ -378,7 +383,7 @@ fn poke(writer: &mut Writer) {
             writer.line(format!("poke frames {frames}"));
         }
         22 => {
-            let track = writer.rng.pick(&[0, 1, 2, 4, 5]);
+            let track = writer.rng.pick(&[0, 1, 2, 4, 5, PAST_A_BYTE]);
             writer.line(format!("poke frame {frame} track {track}"));
         }
         23..=24 => writer.line(format!("poke frame {frame} p {time}")),
@@ -462,7 +467,9 @@ fn refusals(writer: &mut Writer) {
         match writer.rng.between(1, 14) {
             1..=4 => writer.append_on(),
             5..=6 => {
-                let track = writer.rng.pick(&[0, 1, writer.tracks, writer.tracks + 1]);
+                let track = writer
+                    .rng
+                    .pick(&[0, 1, writer.tracks, writer.tracks + 1, PAST_A_BYTE]);
                 let pts = writer.rng.pick(&[0, 100, OFFERED_LIMIT, OFFERED_LIMIT + 1]);
                 let duration = writer.duration_at_limit();
                 writer.line(format!("append {track} {pts} 0 {duration} 1{fates}"));
@@ -477,7 +484,9 @@ fn refusals(writer: &mut Writer) {
                 writer.line(format!("remove {start} {end}{fates}"));
             }
             9 => {
-                let track = writer.rng.pick(&[0, 1, writer.tracks, writer.tracks + 1]);
+                let track = writer
+                    .rng
+                    .pick(&[0, 1, writer.tracks, writer.tracks + 1, PAST_A_BYTE]);
                 let places = writer.rng.pick(&[0, 1, 2, 4096]);
                 writer.line(format!("ranges {track} places={places}"));
             }

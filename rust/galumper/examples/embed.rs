@@ -18,7 +18,7 @@ fn tell(call: &str, answer: Result<usize, Refusal>, fates: &[Fate]) {
 fn main() {
     let mut fates = [[0; 2]; PLACES];
     let mut ranges = [[0; 2]; PLACES];
-    let mut state = galumper::create(&[0]).expect("one video track");
+    let mut buffer = galumper::create(&[0]).expect("one video track");
     tell("create", Ok(0), &fates);
 
     for i in 0..3 {
@@ -29,7 +29,7 @@ fn main() {
             pts: 40_000 * i,
             dts: 40_000 * i,
         };
-        let answer = state.append(frame, &mut fates);
+        let answer = buffer.append(frame, &mut fates);
         tell("append", answer, &fates);
     }
 
@@ -40,13 +40,13 @@ fn main() {
         pts: 0,
         dts: 0,
     };
-    let answer = state.append(elsewhere, &mut fates);
+    let answer = buffer.append(elsewhere, &mut fates);
     tell("append on track 2", answer, &fates);
 
-    let answer = state.remove(0.04, 0.08, &mut fates);
+    let answer = buffer.remove(0.04, 0.08, &mut fates);
     tell("remove", answer, &fates);
 
-    let count = state.track_ranges(1, &mut ranges).expect("a report");
+    let count = buffer.track_ranges(1, &mut ranges).expect("a report");
     for [start, end] in &ranges[..count] {
         println!("held from {start} to {end}");
     }

@@ -1,15 +1,18 @@
 //! The proved frame buffer, safe to call from Rust.
 //!
-//! The calls are those of `include/galumper.h`, in place on a [`State`]. Every function of the
-//! static library is proved for any bits that it is handed and asks nothing of its caller but that
-//! each list has the places that its length says, which a slice has.
+//! The calls are those of `include/galumper.h`, in place on a [`Buffer`] that the program owns.
+//! Every function of the static library is proved for any bits that it is handed. It asks of its
+//! caller that each list has the places that its length says, and that what it may write to is
+//! lent to nobody else: a slice has them, and a `&mut` is lent once.
 
+mod buffer;
 mod foreign;
-mod state;
 
-pub use state::{Frame, Group, Offered, Setting, Settings, State, Track, PLACES, TRACKS};
+pub use buffer::{
+    Buffer, Group, Head, Offered, Setting, Settings, Tags, Times, Track, PLACES, TRACKS,
+};
 
-use foreign::Report;
+use foreign::{Answered, Report};
 
 /// A line of a fate list: a frame's number, and the cause by which it is gone.
 pub type Fate = [u32; 2];
@@ -33,70 +36,86 @@ pub struct Reading {
 }
 
 /// Creates a buffer with a track for each kind: 0 video, 1 audio.
-pub fn create(kinds: &[u8]) -> Result<State, Refusal> {
+pub fn create(kinds: &[u8]) -> Result<Box<Buffer>, Refusal> {
+    // SAFETY: a buffer is numbers, and zeros are numbers. They are made where they stay.
+    let mut buffer = unsafe { Box::<Buffer>::new_zeroed().assume_init() };
+    let Buffer { times, tags, .. } = &mut *buffer;
     // SAFETY: pointer and length are those of a slice.
-    let state = unsafe { foreign::galumper_create(kinds.as_ptr(), kinds.len()) };
-    done(state.refusal)?;
-    Ok(state)
+    let answered =
+        unsafe { foreign::galumper_lent_create(kinds.as_ptr(), kinds.len(), times, tags) };
+    buffer.keep(answered)?;
+    Ok(buffer)
 }
 
-impl State {
+impl Buffer {
     /// Appends a frame; gives the count of fate lines.
     pub fn append(&mut self, offered: Offered, fates: &mut [Fate]) -> Result<usize, Refusal> {
+        let Self { head, times, tags } = self;
         let (lines, length) = (fates.as_mut_ptr(), fates.len());
         // SAFETY: pointer and length are those of a slice.
-        *self = unsafe { foreign::galumper_append(*self, offered, lines, length) };
-        self.counted()
+        let answered =
+            unsafe { foreign::galumper_lent_append(*head, offered, times, tags, lines, length) };
+        self.keep(answered)
     }
 
     /// Removes, on each track, the frames that begin from `start` up to the first random access
     /// point at or after `end`; gives the count of fate lines.
     pub fn remove(&mut self, start: f64, end: f64, fates: &mut [Fate]) -> Result<usize, Refusal> {
+        let Self { head, times, tags } = self;
         let (lines, length) = (fates.as_mut_ptr(), fates.len());
         // SAFETY: pointer and length are those of a slice.
-        *self = unsafe { foreign::galumper_remove(*self, start, end, lines, length) };
-        self.counted()
+        let answered =
+            unsafe { foreign::galumper_lent_remove(*head, start, end, times, tags, lines, length) };
+        self.keep(answered)
     }
 
     /// Aborts.
     pub fn abort(&mut self) -> Result<(), Refusal> {
-        // SAFETY: the function takes and gives numbers only.
-        *self = unsafe { foreign::galumper_abort(*self) };
-        done(self.refusal)
+        let Self { head, times, tags } = self;
+        // SAFETY: the function takes numbers, and reads the arrays.
+        let answered = unsafe { foreign::galumper_lent_abort(*head, times, tags) };
+        self.keep(answered).map(drop)
     }
 
     /// Sets the mode: 0 segments, 1 sequence.
     pub fn set_mode(&mut self, mode: u32) -> Result<(), Refusal> {
-        // SAFETY: the function takes and gives numbers only.
-        *self = unsafe { foreign::galumper_set_mode(*self, mode) };
-        done(self.refusal)
+        let Self { head, times, tags } = self;
+        // SAFETY: the function takes numbers, and reads the arrays.
+        let answered = unsafe { foreign::galumper_lent_set_mode(*head, times, tags, mode) };
+        self.keep(answered).map(drop)
     }
 
     /// Sets the timestamp offset.
     pub fn set_offset(&mut self, seconds: f64) -> Result<(), Refusal> {
-        // SAFETY: the function takes and gives numbers only.
-        *self = unsafe { foreign::galumper_set_offset(*self, seconds) };
-        done(self.refusal)
+        let Self { head, times, tags } = self;
+        // SAFETY: the function takes numbers, and reads the arrays.
+        let answered = unsafe { foreign::galumper_lent_set_offset(*head, times, tags, seconds) };
+        self.keep(answered).map(drop)
     }
 
     /// Sets the append window's start.
     pub fn set_window_start(&mut self, seconds: f64) -> Result<(), Refusal> {
-        // SAFETY: the function takes and gives numbers only.
-        *self = unsafe { foreign::galumper_set_window_start(*self, seconds) };
-        done(self.refusal)
+        let Self { head, times, tags } = self;
+        // SAFETY: the function takes numbers, and reads the arrays.
+        let answered =
+            unsafe { foreign::galumper_lent_set_window_start(*head, times, tags, seconds) };
+        self.keep(answered).map(drop)
     }
 
     /// Sets the append window's end; plus infinity makes it unbounded.
     pub fn set_window_end(&mut self, seconds: f64) -> Result<(), Refusal> {
-        // SAFETY: the function takes and gives numbers only.
-        *self = unsafe { foreign::galumper_set_window_end(*self, seconds) };
-        done(self.refusal)
+        let Self { head, times, tags } = self;
+        // SAFETY: the function takes numbers, and reads the arrays.
+        let answered =
+            unsafe { foreign::galumper_lent_set_window_end(*head, times, tags, seconds) };
+        self.keep(answered).map(drop)
     }
 
     /// Reads the settings back.
     pub fn read_settings(&self) -> Result<Reading, Refusal> {
-        // SAFETY: the function takes and gives numbers only.
-        let reading = unsafe { foreign::galumper_read_settings(*self) };
+        let Self { head, times, tags } = self;
+        // SAFETY: the function takes numbers, and reads the arrays.
+        let reading = unsafe { foreign::galumper_lent_read_settings(*head, times, tags) };
         done(reading.refusal)?;
         Ok(Reading {
             offset: reading.offset,
@@ -106,22 +125,30 @@ impl State {
     }
 
     /// Reports a track's ranges; gives their count.
-    pub fn track_ranges(&self, track: u8, list: &mut [Stretch]) -> Result<usize, Refusal> {
+    pub fn track_ranges(&self, track: u32, list: &mut [Stretch]) -> Result<usize, Refusal> {
+        let Self { head, times, tags } = self;
         let (ranges, places) = (list.as_mut_ptr(), list.len());
         // SAFETY: pointer and length are those of a slice.
-        reported(unsafe { foreign::galumper_track_ranges(*self, track, ranges, places) })
+        reported(unsafe {
+            foreign::galumper_lent_track_ranges(*head, times, tags, track, ranges, places)
+        })
     }
 
     /// Reports the ranges common to all tracks; gives their count.
     pub fn common_ranges(&self, list: &mut [Stretch]) -> Result<usize, Refusal> {
+        let Self { head, times, tags } = self;
         let (ranges, places) = (list.as_mut_ptr(), list.len());
         // SAFETY: pointer and length are those of a slice.
-        reported(unsafe { foreign::galumper_common_ranges(*self, ranges, places) })
+        reported(unsafe {
+            foreign::galumper_lent_common_ranges(*head, times, tags, ranges, places)
+        })
     }
 
-    /// What the last call that counts lines answered.
-    fn counted(&self) -> Result<usize, Refusal> {
-        done(self.refusal).map(|()| self.count)
+    /// Keeps the head that a function answered, unless it refused; gives the count.
+    fn keep(&mut self, answered: Answered) -> Result<usize, Refusal> {
+        done(answered.refusal)?;
+        self.head = answered.head;
+        Ok(answered.count)
     }
 }
 

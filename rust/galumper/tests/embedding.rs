@@ -17,6 +17,9 @@ remove: done
 held from 0 to 40000
 ";
 
+/// Nothing in the header may be warned of.
+const WARNINGS: [&str; 4] = ["-Wall", "-Wextra", "-pedantic", "-Werror"];
+
 fn repository() -> PathBuf {
     Path::new(env!("CARGO_MANIFEST_DIR")).join("../..")
 }
@@ -31,7 +34,9 @@ fn output(program: &Path) -> String {
 fn the_program_in_c() {
     let program = Path::new(env!("CARGO_TARGET_TMPDIR")).join("embed-c");
     let status = Command::new("cc")
-        .args(["-std=c11", "-Wall", "-Wextra", "-Werror", "-O2", "-o"])
+        .args(["-std=c11", "-O2"])
+        .args(WARNINGS)
+        .arg("-o")
         .arg(&program)
         .arg("-I")
         .arg(repository().join("include"))
@@ -41,6 +46,19 @@ fn the_program_in_c() {
         .expect("a C compiler");
     assert!(status.success());
     assert_eq!(output(&program), WRITTEN);
+}
+
+#[test]
+fn the_header_in_cpp() {
+    let status = Command::new("c++")
+        .args(["-std=c++17", "-fsyntax-only", "-x", "c++"])
+        .args(WARNINGS)
+        .arg("-include")
+        .arg(repository().join("include/galumper.h"))
+        .arg("/dev/null")
+        .status()
+        .expect("a C++ compiler");
+    assert!(status.success());
 }
 
 #[test]

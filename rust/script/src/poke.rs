@@ -63,8 +63,8 @@ pub enum FrameField {
     Decode(i64),
     /// The duration.
     Duration(i64),
-    /// The random-access flag.
-    Flag(bool),
+    /// The random-access flag; a state that keeps a bool declines all but 0 and 1.
+    Flag(i64),
     /// The frame's number.
     Number(i64),
 }
@@ -116,7 +116,7 @@ impl FrameField {
             "p" => Self::Presentation(whole(word)?),
             "d" => Self::Decode(whole(word)?),
             "duration" => Self::Duration(whole(word)?),
-            "flag" => Self::Flag(flag(word)?),
+            "flag" => Self::Flag(whole(word)?),
             "number" => Self::Number(whole(word)?),
             _ => return None,
         })

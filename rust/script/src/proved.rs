@@ -1,9 +1,11 @@
 //! The proved library as a [`Subject`]: its numbers in the words of `second`, and back.
 
-use galumper::{Refusal, State, Track};
+use std::array;
+
+use galumper::{Buffer, Refusal, Track};
 use second::{
-    End, Fate, Head, Maybe, Mode, Offered, Reading, Seconds, Settings, Stretch, WindowEnd,
-    FRAME_PLACES, TRACK_PLACES,
+    End, Fate, Frame, Head, Maybe, Mode, Offered, Reading, Seconds, Settings, State, Stretch,
+    WindowEnd, TRACK_PLACES,
 };
 
 use crate::poke::{FrameField, Poke, TrackField};
@@ -17,67 +19,67 @@ fn numbered<A>(result: Result<A, Refusal>) -> Result<A, u32> {
     result.map_err(|Refusal(number)| number)
 }
 
-/// Tracks and kinds are bytes there. 255 is none, as is every number above it.
-fn byte(number: u32) -> u8 {
+/// Kinds are bytes there. 255 is none, as is every number above it.
+fn kind(number: u32) -> u8 {
     u8::try_from(number).unwrap_or(u8::MAX)
 }
 
 impl Subject for Proved {
-    type State = State;
+    type State = Box<Buffer>;
 
-    fn create(&mut self, kinds: &[u32]) -> Result<State, u32> {
-        let kinds: Vec<u8> = kinds.iter().copied().map(byte).collect();
+    fn create(&mut self, kinds: &[u32]) -> Result<Self::State, u32> {
+        let kinds: Vec<u8> = kinds.iter().copied().map(kind).collect();
         numbered(galumper::create(&kinds))
     }
 
     fn append(
         &mut self,
-        state: &mut State,
+        buffer: &mut Self::State,
         offered: &Offered,
         fates: &mut [Fate],
     ) -> Result<usize, u32> {
         let offered = galumper::Offered {
-            track: byte(offered.track),
+            track: offered.track,
             flagged: u8::from(offered.flagged),
             duration: offered.duration,
             pts: offered.pts,
             dts: offered.dts,
         };
-        numbered(state.append(offered, fates))
+        numbered(buffer.append(offered, fates))
     }
 
     fn remove(
         &mut self,
-        state: &mut State,
+        buffer: &mut Self::State,
         start: f64,
         end: f64,
         fates: &mut [Fate],
     ) -> Result<usize, u32> {
-        numbered(state.remove(start, end, fates))
+        numbered(buffer.remove(start, end, fates))
     }
 
-    fn abort(&mut self, state: &mut State) -> Result<(), u32> {
-        numbered(state.abort())
+    fn abort(&mut self, buffer: &mut Self::State) -> Result<(), u32> {
+        numbered(buffer.abort())
     }
 
-    fn set_mode(&mut self, state: &mut State, mode: Mode) -> Result<(), u32> {
-        numbered(state.set_mode(mode_number(mode)))
+    fn set_mode(&mut self, buffer: &mut Self::State, mode: Mode) -> Result<(), u32> {
+        numbered(buffer.set_mode(mode_number(mode)))
     }
 
-    fn set_offset(&mut self, state: &mut State, seconds: f64) -> Result<(), u32> {
-        numbered(state.set_offset(seconds))
+    fn set_offset(&mut self, buffer: &mut Self::State, seconds: f64) -> Result<(), u32> {
+        numbered(buffer.set_offset(seconds))
     }
 
-    fn set_window_start(&mut self, state: &mut State, seconds: f64) -> Result<(), u32> {
-        numbered(state.set_window_start(seconds))
+    fn set_window_start(&mut self, buffer: &mut Self::State, seconds: f64) -> Result<(), u32> {
+        numbered(buffer.set_window_start(seconds))
     }
 
-    fn set_window_end(&mut self, state: &mut State, seconds: f64) -> Result<(), u32> {
-        numbered(state.set_window_end(seconds))
+    fn set_window_end(&mut self, buffer: &mut Self::State, seconds: f64) -> Result<(), u32> {
+        numbered(buffer.set_window_end(seconds))
     }
 
-    fn read_settings(&mut self, state: &State) -> Result<Reading, u32> {
-        let reading = numbered(state.read_settings())?;
+    fn read_settings(&mut self, buffer: &Self::State) -> Result<Reading, u32> {
+        let reading = numbered(buffer.read_settings())?;
         Ok(Reading {
             offset: reading.offset,
             window_start: reading.start,
@@ -87,49 +89,51 @@ impl Subject for Proved {
 
     fn track_ranges(
         &mut self,
-        state: &State,
+        buffer: &Self::State,
         track: u32,
         list: &mut [Stretch],
     ) -> Result<usize, u32> {
-        numbered(state.track_ranges(byte(track), list))
+        numbered(buffer.track_ranges(track, list))
     }
 
-    fn common_ranges(&mut self, state: &State, list: &mut [Stretch]) -> Result<usize, u32> {
-        numbered(state.common_ranges(list))
+    fn common_ranges(&mut self, buffer: &Self::State, list: &mut [Stretch]) -> Result<usize, u32> {
+        numbered(buffer.common_ranges(list))
     }
 
-    fn view(&self, state: &State) -> second::State {
-        second::State {
+    fn view(&self, buffer: &Self::State) -> State {
+        let head = &buffer.head;
+        State {
             head: Head {
-                track_count: state.ntracks,
-                tracks: state.tracks.map(track_seen),
-                last_number: state.last,
-                mode: match state.mode {
+                track_count: head.ntracks,
+                tracks: head.tracks.map(track_seen),
+                last_number: head.last,
+                mode: match head.mode {
                     0 => Mode::Segments,
                     _ => Mode::Sequence,
                 },
                 group_start: Maybe {
-                    set: state.group.begun == 1,
-                    value: state.group.start,
+                    set: head.group.begun == 1,
+                    value: head.group.start,
                 },
-                group_end: state.group.end,
-                settings: settings_seen(&state.settings),
+                group_end: head.group.end,
+                settings: settings_seen(&head.settings),
             },
-            frame_count: state.nframes,
-            frames: state.frames.map(frame_seen),
+            frame_count: head.nframes,
+            frames: array::from_fn(|place| frame_seen(buffer.times[place], buffer.tags[place])),
         }
     }
 
-    fn poke(&mut self, state: &mut State, poke: &Poke) -> Result<(), Declined> {
-        let settings = &mut state.settings;
+    fn poke(&mut self, buffer: &mut Self::State, poke: &Poke) -> Result<(), Declined> {
+        let head = &mut buffer.head;
+        let settings = &mut head.settings;
         match *poke {
-            Poke::LastNumber(number) => state.last = number.try_into()?,
-            Poke::Mode(mode) => state.mode = mode_number(mode),
+            Poke::LastNumber(number) => head.last = number.try_into()?,
+            Poke::Mode(mode) => head.mode = mode_number(mode),
             Poke::GroupStart(Maybe { set, value }) => {
-                state.group.begun = u8::from(set);
-                state.group.start = value;
+                head.group.begun = u8::from(set);
+                head.group.start = value;
             }
-            Poke::GroupEnd(end) => state.group.end = end,
+            Poke::GroupEnd(end) => head.group.end = end,
             Poke::OffsetMicros(micros) => settings.offset.micros = micros,
             Poke::OffsetDouble(double) => settings.offset.seconds = double,
             Poke::WindowStartMicros(micros) => settings.start.micros = micros,
@@ -139,10 +143,10 @@ impl Subject for Proved {
                 settings.limit = value;
             }
             Poke::WindowEndDouble(double) => settings.end = double,
-            Poke::Tracks(count) => state.ntracks = count.try_into()?,
-            Poke::Track(place, field) => poke_track(&mut state.tracks, place, field)?,
-            Poke::Frames(count) => state.nframes = count.try_into()?,
-            Poke::Frame(place, field) => poke_frame(&mut state.frames, place, field)?,
+            Poke::Tracks(count) => head.ntracks = count.try_into()?,
+            Poke::Track(place, field) => poke_track(&mut head.tracks, place, field)?,
+            Poke::Frames(count) => head.nframes = count.try_into()?,
+            Poke::Frame(place, field) => poke_frame(buffer, place, field)?,
         }
         Ok(())
     }
@@ -173,14 +177,14 @@ fn settings_seen(settings: &galumper::Settings) -> Settings {
     }
 }
 
-fn frame_seen(frame: galumper::Frame) -> second::Frame {
-    second::Frame {
-        track: frame.track.into(),
-        number: frame.number,
-        pts: frame.pts,
-        dts: frame.dts,
-        duration: frame.duration,
-        flagged: frame.flagged == 1,
+fn frame_seen([pts, dts]: [i64; 2], [track, flag, duration, number]: [u32; 4]) -> Frame {
+    Frame {
+        track,
+        number,
+        pts,
+        dts,
+        duration,
+        flagged: flag == 1,
     }
 }
 
@@ -243,19 +247,16 @@ fn poke_track(
     Ok(())
 }
 
-fn poke_frame(
-    frames: &mut [galumper::Frame; FRAME_PLACES],
-    place: usize,
-    field: FrameField,
-) -> Result<(), Declined> {
-    let frame = frames.get_mut(place).ok_or(Declined)?;
+fn poke_frame(buffer: &mut Buffer, place: usize, field: FrameField) -> Result<(), Declined> {
+    let time = buffer.times.get_mut(place).ok_or(Declined)?;
+    let tag = buffer.tags.get_mut(place).ok_or(Declined)?;
     match field {
-        FrameField::Track(track) => frame.track = track.try_into()?,
-        FrameField::Presentation(time) => frame.pts = time,
-        FrameField::Decode(time) => frame.dts = time,
-        FrameField::Duration(duration) => frame.duration = duration.try_into()?,
-        FrameField::Flag(flag) => frame.flagged = u8::from(flag),
-        FrameField::Number(number) => frame.number = number.try_into()?,
+        FrameField::Track(track) => tag[0] = track.try_into()?,
+        FrameField::Presentation(pts) => time[0] = pts,
+        FrameField::Decode(dts) => time[1] = dts,
+        FrameField::Duration(duration) => tag[2] = duration.try_into()?,
+        FrameField::Flag(flag) => tag[1] = flag.try_into()?,
+        FrameField::Number(number) => tag[3] = number.try_into()?,
     }
     Ok(())
 }

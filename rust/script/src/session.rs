@@ -165,11 +165,15 @@ fn stretch(stretch: &Stretch) -> String {
 #[cfg(test)]
 mod tests {
     use super::*;
+    use crate::proved::Proved;
     use crate::subject::Second;
 
     fn answers(script: &str) -> Vec<String> {
-        let mut subject: Second = Second::default();
-        let mut session = Session::new(&mut subject);
+        answers_of(&mut Second::<()>::default(), script)
+    }
+
+    fn answers_of<S: Subject>(subject: &mut S, script: &str) -> Vec<String> {
+        let mut session = Session::new(subject);
         let lines = script.lines();
         lines.filter_map(|line| session.answer(line)).collect()
     }
@@ -204,5 +208,13 @@ mod tests {
     fn a_poke_that_no_state_can_hold() {
         let script = "create 0\npoke last-number 4294967296\npoke frames 1025\nabort";
         assert_eq!(answers(script), ["ok", "declined", "ok", "refused 1"]);
+    }
+
+    #[test]
+    fn a_poke_that_only_one_state_can_hold() {
+        let script = "create 0\nappend 1 0 0 100 1\npoke frame 1 flag 2\nabort";
+        let [second, proved] = [answers(script), answers_of(&mut Proved, script)];
+        assert_eq!(second, ["ok", "ok fates", "declined", "ok"]);
+        assert_eq!(proved, ["ok", "ok fates", "ok", "refused 1"]);
     }
 }

@@ -211,7 +211,13 @@ fn poke_frame(
         FrameField::Presentation(time) => frame.pts = time,
         FrameField::Decode(time) => frame.dts = time,
         FrameField::Duration(duration) => frame.duration = duration.try_into()?,
-        FrameField::Flag(flag) => frame.flagged = flag,
+        FrameField::Flag(flag) => {
+            frame.flagged = match flag {
+                0 => false,
+                1 => true,
+                _ => return Err(Declined),
+            }
+        }
         FrameField::Number(number) => frame.number = number.try_into()?,
     }
     Ok(())

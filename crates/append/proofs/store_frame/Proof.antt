@@ -1,129 +1,286 @@
--- Refusal 8 by the count of frames left, which are those of the definition; else each call as it is told.
-use mathlib.Core.Path.{_≡_, refl, sym, ap, subst, _∙_}
-use mathlib.Core.Bool.{true, false}
-use mathlib.Core.List.{List}
-use Prim.Native.Nat.{_≤_, _<_}
+-- By whether a frame goes: where none does, refusal 8 is by the count alone, and the insertion is all; else a place is freed.
+use mathlib.Core.Path.{_≡_, refl, sym, ap, _∙_}
+use mathlib.Core.Bool.{false, not}
+use mathlib.Core.List.{List, [], _++_}
+use Prim.Native.Nat.{_+_, _≤_, _<_}
 use native.Mathlib.Omega.{arith}
 use borrow.Author.Needs.{needs}
-use lib.ListN.{length}
+use lib.ListN.{length, drop}
+use lib.Seq.{take-all}
+use Rattle.buffer_state.specs.declared.Count.the-variants as Count
 use Rattle.buffer_state.specs.declared.Frame.{Frame}
+use Rattle.buffer_state.specs.declared.Head.{Head}
 use Rattle.buffer_state.specs.declared.Refusal.the-variants.{Full}
-use Rattle.buffer_state.specs.declared.State.{State}
-use Rattle.buffer_state.specs.Append as Append
-use Rattle.buffer_state.specs.Append.{Pass, needing, overlapMarks, stepNine, storedAs}
+use Rattle.buffer_state.specs.declared.Track.{Track}
+use Rattle.buffer_state.specs.Answers.{written}
+use Rattle.buffer_state.specs.Append.{Pass, needing, overlapped, overlapMarks, stored, stepNine, storedAs}
+use Rattle.buffer_state.specs.Buffer.{trackOf}
+use Rattle.buffer_state.specs.Layout.{zeroFrame, padded}
+use Rattle.buffer_state.specs.Lent.{timesOf, tagsOf, headOf}
+use Rattle.buffer_state.specs.Limits.{places, lastNumber}
 use Rattle.buffer_state.specs.Refusals.{refused, done}
-use Rattle.buffer_state.specs.Store.{Marked, insertSorted, kept}
-use Rattle.buffer_state.specs.WellFormed.{sorted}
+use Rattle.buffer_state.specs.Store.{Marked, Line, insertSorted, walk, kept, linesOf}
+use Rattle.buffer_state.specs.WellFormed.{allOf}
 use Rattle.buffer_laws.proofs.AnswerLaws.{answered}
-use Rattle.store.specs.Marks.{stored, ZerosPast, markedBy, leaving, linesThen}
-use Rattle.store.proofs.MarksLaws.{good-store}
-use Rattle.heads.specs.declared.Head.{Head}
-use Rattle.heads.specs.Heads.{headOf, underHead}
-use Rattle.append.specs.Settled.{passAt, Ready}
+use Rattle.heads.specs.Heads.{HasTrack}
+use Rattle.taking.specs.Marks.{linesThen}
+use Rattle.taking.specs.Taking.{onTrack, inSpans}
+use Rattle.taking.proofs.GoneLaws.{marks-same, none-gone}
+use Rattle.append.specs.Settled.{passAt, Stored, overlapAt}
 use Rattle.append.proofs.SettleLaws.{store-full, store-result}
-use Rattle.append.proofs.StoredLaws.{needing-pass, needing-ready, stored-count}
+use Rattle.append.proofs.StoredLaws.{held-head, held-count, held-store, needing-track, stored-count, freed}
 use Rattle.append.proofs.store_frame.Statement.{statement}
 use Rattle.append.proofs.store_frame.Tie as tie
 
-need-track-requires : tie.Need-need-track-requires
-need-track-requires c κs = c .pre .0 .track
+-- ---- the state handed in, its frames, and the pass that is stored: need-random-access is off
 
--- the pass that is stored: need-random-access is off
+abbrev pass : tie.Start → Pass
+pass s = let a = s .args in passAt (a .h) (a .times .now) (a .tags .now) (a .g)
+
+abbrev frames : tie.Start → List Frame
+frames s = pass s .buffer .frames
+
 abbrev storing : tie.Start → Pass
-storing c = record { buffer = needing false (passAt (c .args .s) (c .args .h) (c .args .g)); frame = c .args .g }
+storing s = record { buffer = needing false (pass s); frame = s .args .g }
+
+count : (s : tie.Start) → length (frames s) ≡ s .args .h .nframes
+count s = let a = s .args in sym (held-count (a .h) (a .times .now) (a .tags .now) (s .pre .0 .whole))
+
+store : (s : tie.Start) → let a = s .args in Stored (a .h .nframes) (a .times .now) (a .tags .now)
+store s = let a = s .args in held-store (a .h) (a .times .now) (a .tags .now) (s .pre .0 .whole)
+
+need-track-requires : tie.Need-need-track-requires
+need-track-requires c κs = search needs
 
 headed : (c : tie.After-need-track) → c .need-track .result ≡ headOf (storing (c .before) .buffer)
-headed c = let s = c .before in c .need-track .ensures (passAt (s .args .s) (s .args .h) (s .args .g) .buffer) (s .pre .0 .laid)
+headed c =
+    let s = c .before in
+    let a = s .args in
+    c .need-track .ensures (pass s .buffer) (held-head (a .h) (a .times .now) (a .tags .now) (s .pre .0 .whole))
 
-ready : (c : tie.After-need-track) → Ready (c .before .args .s) (c .need-track .result) (c .before .args .g)
-ready c = let s = c .before in needing-ready (s .args .s) (s .args .h) (s .args .g) (s .pre .0) (c .need-track .result) (headed c)
+track : (c : tie.After-need-track) → HasTrack (c .need-track .result) (c .before .args .g .track)
+track c =
+    let s = c .before in
+    let a = s .args in
+    needing-track (a .h) (a .times .now) (a .tags .now) (a .g) (s .pre .0) (c .need-track .result) (headed c)
 
-taken-requires : tie.Need-taken-requires
-taken-requires c κs = ready c
+number : (c : tie.After-need-track) → c .need-track .result .last < lastNumber
+number c = rw (headed c) (c .before .pre .0 .number)
 
--- the causes are the definition's
-marked : (c : tie.After-taken) → markedBy (stored (c .before .before .args .s)) (c .taken .result .of) ≡ overlapMarks (storing (c .before .before))
+track-of-requires : tie.Need-track-of-requires
+track-of-requires c κs = track c
+
+span-of-requires : tie.Need-span-of-requires
+span-of-requires c κs = search needs
+
+spans-with-requires : tie.Need-spans-with-requires
+spans-with-requires c κs = let r = c .before .before .before .pre .0 .track in omega (arith, r .1, r .2)
+
+-- ---- the marks
+
+abbrev off : tie.After-spans-with → tie.After-need-track
+off c = c .before .before .before
+
+abbrev marks : tie.After-spans-with → List Marked
+marks c = let a = off c .before .args in overlapAt (c .spans-with .result) (a .h .nframes) (a .times .now) (a .tags .now)
+
+-- they are the definition's
+marked : (c : tie.After-spans-with) → marks c ≡ overlapMarks (storing (off c .before))
+unfolding overlapMarks
 marked c =
-    let k = c .before in
+    let p = c .before in
+    let k = off c in
     let s = k .before in
-    c .taken .ensures .0 ∙ ap overlapMarks (needing-pass (s .args .s) (s .args .h) (s .args .g) (s .pre .0) (k .need-track .result) (headed k))
+    let g = s .args .g in
+    let own = p .before .track-of .ensures (storing s .buffer) (headed k) in
+    ap walk
+    (marks-same onTrack (inSpans (c .spans-with .result)) (overlapped (trackOf (storing s .buffer) (g .track)) g)
+    (λ x _. c .spans-with .ensures x ∙ p .span-of .ensures x ∙ ap (λ (t : Track). overlapped t g x) own) 4 (frames s) (store s .tracks))
 
--- how many frames are left
-left : (c : tie.After-taken) → c .taken .result .left ≡ length (kept (overlapMarks (storing (c .before .before))))
-left c = c .taken .ensures .1 ∙ ap (λ (ms : List Marked). length (kept ms)) (marked c)
+first-in-requires : tie.Need-first-in-requires
+first-in-requires c κs =
+    let s = off (c .before .before) .before in
+    let h = store s in
+    (omega (arith, h .few, h .long .0), h .long .0 ∙ sym (h .long .1), h .tracks)
+
+abbrev spanned : tie.After-first-in → tie.After-spans-with
+spanned c = c .before .before .before
+
+-- where none is in a stretch, all stay, and nothing is told
+all-stay : (c : tie.Then1) → let s = off (spanned (c .before)) .before in
+    (kept (overlapMarks (storing s)) ≡ frames s) × (linesOf (overlapMarks (storing s)) ≡ [])
+all-stay c =
+    let m = c .before in
+    let p = spanned m in
+    let s = off p .before in
+    let whole = take-all (s .args .h .nframes) (frames s) (omega (arith, count s)) in
+    let all = none-gone (inSpans (p .spans-with .result)) 4 (frames s)
+    (ap (allOf (λ (g : Frame). not (inSpans (p .spans-with .result) g))) (sym whole) ∙ rw (c .if1 .taken) at (m .first-in .ensures .before)) in
+    (ap kept (sym (marked p)) ∙ all .0, ap linesOf (sym (marked p)) ∙ all .1)
+
+-- else a place is freed
+left-few : (c : tie.Else1) → length (kept (marks (spanned (c .before)))) < 1024
+left-few c =
+    let m = c .before in
+    let p = spanned m in
+    let s = off p .before in
+    let a = s .args in
+    freed (p .spans-with .result) (a .h .nframes) (m .first-in .result) (a .times .now) (a .tags .now) (store s) (m .first-in .ensures)
+    (omega (arith, m .first-in .ensures .inside, c .if1 .left))
+
+-- ---- the store is full
 
 refuse-requires : tie.Need-refuse-requires
 refuse-requires c κs = search needs
 
+same-length : tie.Need-same-length
+same-length c = search needs
+
+same-length-2 : tie.Need-same-length-2
+same-length-2 c = search needs
+
 returns : tie.Need-returns
 returns c =
-    let i = c .before in
-    let n = i .before .before in
-    let s = n .before .before in
+    let f = c .before in
+    let i = f .before in
+    let s = off (spanned (i .before)) .before in
     let a = s .args in
-    let full = store-full (passAt (a .s) (a .h) (a .g)) (s .pre .1) (omega (arith, stored-count (storing s), left n, i .if1 .taken)) in
-    answered (a .s) (a .fates .now) (refused Full) full (c .refuse .ensures) refl
+    let n : length (kept (overlapMarks (storing s))) ≡ a .h .nframes = ap length (all-stay i .0) ∙ count s in
+    let full = store-full (pass s) (s .pre .1) (omega (arith, stored-count (storing s), n, f .if2 .taken)) in
+    answered (a .old) (a .times .now) (a .tags .now) (a .fates .now) (refused Full) full (c .refuse .ensures) refl refl refl
+
+-- ---- the insertion is all
 
 step-nine-requires : tie.Need-step-nine-requires
-step-nine-requires c κs = let r = ready (c .before .before .before) in (r .track, r .pts, r .number)
+step-nine-requires c κs = let k = off (spanned (c .before .before)) in (track k, k .before .pre .0 .pts, number k, omega (arith, c .if2 .left))
 
 stored-as-requires : tie.Need-stored-as-requires
 stored-as-requires c κs = search needs
 
-with-head-requires : tie.Need-with-head-requires
-with-head-requires c κs = search needs
+insert-requires : tie.Need-insert-requires
+insert-requires c κs =
+    let e = c .before .before .before .before in
+    let h = store (off (spanned (e .before .before)) .before) in
+    (omega (arith, e .if2 .left), h .long, h .hold, h .order)
 
-put-in-requires : tie.Need-put-in-requires
-put-in-requires c κs =
-    let t = c .before in
-    let i = t .before .before .before in
-    let n = i .before .before in
-    let s = n .before .before in
-    let good = good-store _ (s .pre .0 .whole) in
-    subst
-    (λ (x : State).
-    ((x .nframes ≤ 1024) × ZerosPast x × (sorted (stored x) ≡ true) × (1024 ≤ length (s .args .fates .now)))
-    × ((n .taken .result .left ≡ length (kept (markedBy (stored x) (n .taken .result .of)))) × (n .taken .result .left < 1024)))
-    (sym (t .with-head .ensures))
-    ((good .few, good .zeros, good .order, s .pre .2), (n .taken .ensures .1, omega (arith, i .if1 .left)))
+same-length-3 : tie.Need-same-length-3
+same-length-3 c = search needs
 
-same-length : tie.Need-same-length
-same-length c = search needs
+same-length-4 : tie.Need-same-length-4
+same-length-4 c = search needs
 
 returns-2 : tie.Need-returns-2
-unfolding Append.stored stepNine
+unfolding stored stepNine
 returns-2 c =
-    let p = c .before in
-    let t = p .before .before in
-    let f = t .before in
+    let u = c .before .before in
+    let f = u .before .before .before in
     let x = f .before in
-    let i = x .before in
-    let m = i .before .before in
-    let k = m .before in
+    let e = x .before in
+    let i = e .before in
+    let k = off (spanned (i .before)) in
     let s = k .before in
     let a = s .args in
     let q : Pass = storing s in
-    let ls : List Frame = kept (overlapMarks q) in
-    let room : length (Append.stored q .after .frames) ≤ 1024 = omega (arith, stored-count q, left m, i .if1 .left) in
-    let res = store-result (passAt (a .s) (a .h) (a .g)) (s .pre .1) room in
-    let nine = x .step-nine .ensures (q .buffer) ls (headed k) in
+    let all = all-stay i in
+    let n : length (kept (overlapMarks q)) ≡ a .h .nframes = ap length (all .0) ∙ count s in
+    let room : length (stored q .after .frames) ≤ 1024 = omega (arith, stored-count q, n, e .if2 .left) in
+    let res = store-result (pass s) (s .pre .1) room in
+    let nine = x .step-nine .ensures (q .buffer) (kept (overlapMarks q)) (headed k) (sym n) in
     let new = f .stored-as .ensures ∙ ap (λ (h : Head). storedAs (h .last) (a .g)) nine in
-    let under = t .with-head .ensures ∙ ap (underHead (a .s)) nine in
-    let marks = (λ j. markedBy (stored (under j)) (m .taken .result .of)) ∙ marked m in
-    let put = p .put-in .ensures .0 ∙ (λ j. leaving (under j) (insertSorted (new j) (kept (marks j))) (marks j)) in
-    answered (a .s) (a .fates .now) (done (Append.stored q)) res put (p .put-in .ensures .1 ∙ ap (λ (ms : List Marked). linesThen ms (a .fates .now)) marks)
+    let none = sym (all .1) in
+    let old = sym (all .0) in
+    answered (a .old) (a .times .now) (a .tags .now) (a .fates .now) (done (stored q)) res
+    (λ j. record { answer = Count.Done (length (none j)); head = nine j })
+    (u .insert .ensures .0 ∙ (λ j. timesOf (padded places zeroFrame (insertSorted (new j) (old j)))))
+    (u .insert .ensures .1 ∙ (λ j. tagsOf (padded places zeroFrame (insertSorted (new j) (old j)))))
+    (ap (λ (ls : List Line). written ls ++ drop (length ls) (a .fates .now)) none)
+
+-- ---- frames go
+
+add-number : tie.Need-add-number
+add-number c = let k = off (spanned (c .before .before)) in omega (arith, number k)
+
+stored-as-requires-2 : tie.Need-stored-as-requires-2
+stored-as-requires-2 c κs = search needs
+
+put-in-requires : tie.Need-put-in-requires
+put-in-requires c κs =
+    let e = c .before .before .before .before .before in
+    let m = e .before in
+    let s = off (spanned m) .before in
+    (store s, m .first-in .ensures, omega (arith, m .first-in .ensures .inside, e .if1 .left), s .pre .2)
+
+-- where they were found, and how many are left
+abbrev found : tie.After-put-in → tie.Else1
+found c = c .before .before .before .before .before .before
+
+left : (c : tie.After-put-in) → let s = off (spanned (found c .before)) .before in c .put-in .result .left ≡ length (kept (overlapMarks (storing s)))
+left c = c .put-in .ensures .1 .1 .1 .0 ∙ ap (λ (ms : List Marked). length (kept ms)) (marked (spanned (found c .before)))
+
+room : (c : tie.After-put-in) → c .put-in .result .left < 1024
+room c = omega (arith, c .put-in .ensures .1 .1 .1 .0, left-few (found c))
+
+step-nine-requires-2 : tie.Need-step-nine-requires-2
+step-nine-requires-2 c κs =
+    let u = c .before .before .before in
+    let k = off (spanned (found u .before)) in
+    (track k, k .before .pre .0 .pts, number k, room u)
+
+same-length-5 : tie.Need-same-length-5
+same-length-5 c = search needs
+
+same-length-6 : tie.Need-same-length-6
+same-length-6 c = search needs
+
+same-length-7 : tie.Need-same-length-7
+same-length-7 c = search needs
+
+returns-3 : tie.Need-returns-3
+unfolding stored stepNine
+returns-3 c =
+    let u = c .before .before .before .before in
+    let f = u .before .before .before .before in
+    let p = spanned (found u .before) in
+    let k = off p in
+    let s = k .before in
+    let a = s .args in
+    let q : Pass = storing s in
+    let all : length (stored q .after .frames) ≤ 1024 = omega (arith, stored-count q, left u, room u) in
+    let res = store-result (pass s) (s .pre .1) all in
+    let nine = c .step-nine2 .ensures (q .buffer) (kept (overlapMarks q)) (headed k) (left u) in
+    let told = u .put-in .ensures .1 .1 .1 .1 ∙ ap (λ (ms : List Marked). length (linesOf ms)) (marked p) in
+    let new = f .stored-as2 .ensures ∙ ap (λ (h : Head). storedAs (h .last + 1) (a .g)) (headed k) in
+    let ms = marked p in
+    answered (a .old) (a .times .now) (a .tags .now) (a .fates .now) (done (stored q)) res
+    (λ j. record { answer = Count.Done (told j); head = nine j })
+    (u .put-in .ensures .0 ∙ (λ j. timesOf (padded places zeroFrame (insertSorted (new j) (kept (ms j))))))
+    (u .put-in .ensures .1 .0 ∙ (λ j. tagsOf (padded places zeroFrame (insertSorted (new j) (kept (ms j))))))
+    (u .put-in .ensures .1 .1 .0 ∙ ap (λ (ms : List Marked). linesThen ms (a .fates .now)) ms)
 
 pub store-frame-spec : {M : Type 1} → statement M
 store-frame-spec =
     tie.close
     (tie.spec
     need-track-requires
-    taken-requires
+    track-of-requires
+    span-of-requires
+    spans-with-requires
+    first-in-requires
     refuse-requires
+    same-length
+    same-length-2
     returns
     step-nine-requires
     stored-as-requires
-    with-head-requires
+    insert-requires
+    same-length-3
+    same-length-4
+    returns-2
+    add-number
+    stored-as-requires-2
     put-in-requires
-    same-length
-    returns-2)
+    step-nine-requires-2
+    same-length-5
+    same-length-6
+    same-length-7
+    returns-3)

@@ -4,6 +4,7 @@ use Prim.Native.Nat.{ℕ, _+_, _-_, _≤_}
 use native.Mathlib.Omega.{arith}
 use lib.ListN.{length, getD}
 use Rattle.call_rows.specs.Encoded.{ofLines, ofRanges}
+use Rattle.call_rows.specs.Replies.{lent}
 use Rattle.call_list.proofs.PartLaws.{called-at}
 use borrow.Author.Needs.{needs}
 use Rattle.call_list.proofs.call_at.Statement.{statement}
@@ -52,7 +53,7 @@ part-make-call-start : tie.Need-part-make-call-start
 part-make-call-start c = search needs
 
 part-make-call-end : tie.Need-part-make-call-end
-part-make-call-end c = let h = lines-within (c .before) in search needs
+part-make-call-end c = let h = lines-within (c .before .before .before) in search needs
 
 mul-make-call-2 : tie.Need-mul-make-call-2
 mul-make-call-2 c = search needs
@@ -64,7 +65,7 @@ part-make-call-start-2 : tie.Need-part-make-call-start-2
 part-make-call-start-2 c = search needs
 
 part-make-call-end-2 : tie.Need-part-make-call-end-2
-part-make-call-end-2 c = let h = ranges-within (c .before) in search needs
+part-make-call-end-2 c = let h = ranges-within (c .before .before .before) in search needs
 
 make-call-requires : tie.Need-make-call-requires
 make-call-requires c κs = search needs
@@ -78,16 +79,16 @@ same-length-2 c = search needs
 returns : tie.Need-returns
 returns c =
     let k = c .before .before in
-    let g = k .before .before .before in
+    let g = k .before .before .before .before .before in
     let l = g .before in
     let a = l .before .before .args in
     let n : ℕ = a .at + l .of-lines .result - a .at in
     let m : ℕ = a .placed + g .of-ranges .result - a .placed in
     let en : n ≡ l .of-lines .result = omega arith in
     let em : m ≡ g .of-ranges .result = omega arith in
-    called-at (a .t2) (a .times) (a .seconds) (a .s) (k .make-call .result) (a .lines .now) (a .at) n (a .list .now) (a .placed) m
+    called-at (a .t2) (a .stamps) (a .seconds) (lent (a .h) (a .times .now) (a .tags .now)) (k .make-call .result) (k .make-call .last .1 .1 .1 .1 .0) (k .make-call .last .1 .1 .1 .1 .1 .0) (a .lines .now) (a .at) n (a .list .now) (a .placed) m
     (en ∙ lines-asked l) (em ∙ ranges-asked g) (omega (arith, lines-within l)) (omega (arith, ranges-within g))
-    (k .make-call .last .1 .1 .1 .1 .0) (k .make-call .last .1 .1 .1 .1 .1 .0) (k .make-call .ensures) (k .make-call .kept .1 .1 .1 .1 .0) (k .make-call .kept .1 .1 .1 .1 .1 .0)
+    (k .make-call .last .1 .1 .1 .1 .1 .1 .0) (k .make-call .last .1 .1 .1 .1 .1 .1 .1 .0) (k .make-call .ensures) (k .make-call .kept .1 .1 .1 .1 .1 .1 .0) (k .make-call .kept .1 .1 .1 .1 .1 .1 .1 .0)
 
 pub call-at-spec : {M : Type 1} → statement M
 call-at-spec =

@@ -19,9 +19,9 @@ returns : tie.Need-returns
 returns c =
     let l = c .before in
     let a = l .before .args in
-    not-long (a .calls .now) (a .times) (a .seconds) (a .answers) (a .lines) (a .ranges) (a .readings) (sym (l .long-enough .ensures) ∙ not-true _ (c .if1 .taken))
+    not-long (a .calls .now) (a .stamps) (a .seconds) (a .answers) (a .lines) (a .ranges) (a .readings) (sym (l .long-enough .ensures) ∙ not-true _ (c .if1 .taken))
 
-long : (c : tie.Else1) → let a = c .before .before .args in longEnough (length (a .calls .now)) (a .times) (a .seconds) (a .answers) (a .lines) (a .readings) ≡ true
+long : (c : tie.Else1) → let a = c .before .before .args in longEnough (length (a .calls .now)) (a .stamps) (a .seconds) (a .answers) (a .lines) (a .readings) ≡ true
 long c = sym (c .before .long-enough .ensures) ∙ not-false _ (c .if1 .left)
 
 -- a line for each call
@@ -29,7 +29,7 @@ enough-lines : (c : tie.Else1) → length (c .before .before .args .calls .now) 
 enough-lines c =
     let a = c .before .before .args in
     let n = length (a .calls .now) in
-    leb-true n (a .lines) (and-left (leb n (a .lines)) _ (and-right (leb n (a .answers)) _ (and-right (leb n (a .seconds)) _ (and-right (leb n (a .times)) _ (long c)))))
+    leb-true n (a .lines) (and-left (leb n (a .lines)) _ (and-right (leb n (a .answers)) _ (and-right (leb n (a .seconds)) _ (and-right (leb n (a .stamps)) _ (long c)))))
 
 sub-rows-fit : tie.Need-sub-rows-fit
 sub-rows-fit c = let h = enough-lines c in search needs
@@ -41,7 +41,7 @@ returns-2 : tie.Need-returns-2
 returns-2 c =
     let w = c .before in
     let a = w .before .before .before .args in
-    rows-unfit (a .calls .now) (a .times) (a .seconds) (a .answers) (a .lines) (a .ranges) (a .readings) (long (w .before))
+    rows-unfit (a .calls .now) (a .stamps) (a .seconds) (a .answers) (a .lines) (a .ranges) (a .readings) (long (w .before))
     (sym (w .rows-fit .ensures) ∙ not-true _ (c .if2 .taken))
 
 ranges-fit-requires : tie.Need-ranges-fit-requires
@@ -53,7 +53,7 @@ returns-3 c =
     let w = e .before in
     let a = w .before .before .before .args in
     c .ranges-fit .ensures
-    ∙ by-ranges (a .calls .now) (a .times) (a .seconds) (a .answers) (a .lines) (a .ranges) (a .readings) (long (w .before))
+    ∙ by-ranges (a .calls .now) (a .stamps) (a .seconds) (a .answers) (a .lines) (a .ranges) (a .readings) (long (w .before))
     (sym (w .rows-fit .ensures) ∙ not-false _ (e .if2 .left))
 
 pub fit-spec : {M : Type 1} → statement M

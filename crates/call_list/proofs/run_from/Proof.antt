@@ -7,8 +7,9 @@ use native.Mathlib.Omega.{arith}
 use lib.ListN.{length, getD, set}
 use mir.Syntax.{w64}
 use mir.Val.{Fits}
-use Rattle.buffer_state.specs.Layout.{bufferOf}
+use Rattle.buffer_state.specs.Lent.{bufferIn}
 use Rattle.call_rows.specs.Encoded.{ofLines, ofRanges}
+use Rattle.call_rows.specs.Replies.{lent}
 use Rattle.call_list.specs.Listed.{listsOf}
 use Rattle.call_list.proofs.ListedLaws.{filled-inside}
 use Rattle.call_list.proofs.LoopLaws.{Room, room, Sofar, sofar-none, lines-room, ranges-room, turn, ended}
@@ -17,14 +18,15 @@ use Rattle.call_list.proofs.run_from.Statement.{statement}
 use Rattle.call_list.proofs.run_from.Tie as tie
 
 abbrev Inv-loop : tie.InvT-loop
-Inv-loop calls times seconds answers₀ lines₀ list₀ readings₀ s₀ at₀ placed₀ read₀ i₀ answers lines list readings s at placed read i =
-    Sofar calls times seconds (bufferOf s₀) (listsOf answers₀ lines₀ list₀ readings₀) (listsOf answers lines list readings) s at placed read i
+Inv-loop calls stamps seconds answers₀ lines₀ list₀ readings₀ times₀ tags₀ h₀ at₀ placed₀ read₀ i₀ answers lines list readings times tags h at placed read i =
+    Sofar calls stamps seconds (bufferIn (lent h₀ times₀ tags₀)) (listsOf answers₀ lines₀ list₀ readings₀ times₀ tags₀) (listsOf answers lines list readings times tags) h at placed read i
 
 abbrev μ-loop : tie.MeasureT-loop
-μ-loop calls times seconds answers₀ lines₀ list₀ readings₀ s₀ at₀ placed₀ read₀ i₀ answers lines list readings s at placed read i = length calls - i
+μ-loop calls stamps seconds answers₀ lines₀ list₀ readings₀ times₀ tags₀ h₀ at₀ placed₀ read₀ i₀ answers lines list readings times tags h at placed read i = length calls - i
 
 fit : (c : tie.Start Inv-loop μ-loop)
-    → Room (c .args .calls .now) (c .args .times .now) (c .args .seconds .now) (listsOf (c .args .answers .now) (c .args .lines .now) (c .args .list .now) (c .args .readings .now))
+    → Room (c .args .calls .now) (c .args .stamps .now) (c .args .seconds .now)
+    (listsOf (c .args .answers .now) (c .args .lines .now) (c .args .list .now) (c .args .readings .now) (c .args .times .now) (c .args .tags .now))
 fit c = room _ _ _ _ (c .pre .1)
 
 lists-fit : (c : tie.Start Inv-loop μ-loop)
@@ -33,7 +35,7 @@ lists-fit c = (search needs, search needs, search needs)
 
 -- a place for this call in each list
 record Places (c : tie.In-loop Inv-loop μ-loop) : Type 0 where
-  pub times : c .before .loop .i < length (c .before .before .args .times .now)
+  pub stamps : c .before .loop .i < length (c .before .before .args .stamps .now)
   pub seconds : c .before .loop .i < length (c .before .before .args .seconds .now)
   pub answers : c .before .loop .i < length (c .before .loop .answers)
   pub readings : c .before .loop .read < length (c .before .loop .readings)
@@ -44,7 +46,7 @@ places c =
     let S = c .before .loop .inv in
     let h = c .loop-test .taken in
     record {
-      times = omega (arith, r .times);
+      stamps = omega (arith, r .stamps);
       seconds = omega (arith, r .seconds);
       answers = omega (arith, r .answers, S .answers .same);
       readings = omega (arith, r .readings, S .readings .same, S .read-few);
@@ -69,21 +71,23 @@ turned : (c : tie.After-readings Inv-loop μ-loop) →
     let n = c .before in
     let l = n .before .before .before in
     let k = l .before .before in
-    let p = k .before .before .before .before .before .before in
+    let p = k .before .before .before .before .before .before .before .before in
     let a = p .before .before .args in
     let o = p .before .loop in
     let t = k .call-at .result in
-    Sofar (a .calls .now) (a .times .now) (a .seconds .now) (bufferOf (a .start)) (listsOf (a .answers .now) (a .lines .now) (a .list .now) (a .readings .now))
-    (listsOf (set (o .answers) (o .i) (t .refusal ∷ t .count ∷ [])) (k .call-at .last .1 .1 .1 .1 .0) (k .call-at .last .1 .1 .1 .1 .1 .1 .0) (n .note-reading .last .1 .1 .0))
-    (t .state) (o .at + ofLines (getD (row p) 0 0) (t .count)) (o .placed + ofRanges (getD (row p) 0 0) (t .count)) (n .note-reading .result) (suc (o .i))
+    Sofar (a .calls .now) (a .stamps .now) (a .seconds .now) (bufferIn (lent (a .start) (a .times .now) (a .tags .now)))
+    (listsOf (a .answers .now) (a .lines .now) (a .list .now) (a .readings .now) (a .times .now) (a .tags .now))
+    (listsOf (set (o .answers) (o .i) (t .refusal ∷ t .count ∷ [])) (k .call-at .last .1 .1 .1 .1 .1 .1 .0) (k .call-at .last .1 .1 .1 .1 .1 .1 .1 .1 .0) (n .note-reading .last .1 .1 .0)
+    (k .call-at .last .1 .1 .1 .1 .0) (k .call-at .last .1 .1 .1 .1 .1 .0))
+    (t .head) (o .at + ofLines (getD (row p) 0 0) (t .count)) (o .placed + ofRanges (getD (row p) 0 0) (t .count)) (n .note-reading .result) (suc (o .i))
 turned c =
     let n = c .before in
     let k = n .before .before .before .before .before in
-    let p = k .before .before .before .before .before .before in
+    let p = k .before .before .before .before .before .before .before .before in
     let s = p .before .before in
     turn _ _ _ _ _ (s .pre .0 .good) (s .pre .0 .empty) (fit s) _ _ _ _ _ _ (p .before .loop .inv) (p .loop-test .taken) (row p) refl
-    (getD (s .args .times .now) (p .before .loop .i) []) (getD (s .args .seconds .now) (p .before .loop .i) []) refl refl (k .call-at .result)
-    _ _ _ _ _ _ _ (k .call-at .ensures) (k .call-at .kept .1 .1 .1 .1 .0) (k .call-at .kept .1 .1 .1 .1 .1 .1 .0) refl
+    (getD (s .args .stamps .now) (p .before .loop .i) []) (getD (s .args .seconds .now) (p .before .loop .i) []) refl refl (k .call-at .result)
+    _ _ _ _ _ _ _ _ _ (k .call-at .ensures) (k .call-at .kept .1 .1 .1 .1 .1 .1 .0) (k .call-at .kept .1 .1 .1 .1 .1 .1 .1 .1 .0) refl
     (n .note-reading .ensures .1) (n .note-reading .kept .1 .1 .0) refl refl (n .note-reading .ensures .0)
 
 loop-holds : tie.Need-loop-holds Inv-loop μ-loop
@@ -95,11 +99,11 @@ mul-row c = search needs
 shared-slice-copy-out-row : tie.Need-shared-slice-copy-out-row Inv-loop μ-loop
 shared-slice-copy-out-row c = search needs
 
-mul-time : tie.Need-mul-time Inv-loop μ-loop
-mul-time c = search needs
+mul-stamp : tie.Need-mul-stamp Inv-loop μ-loop
+mul-stamp c = search needs
 
-shared-slice-copy-out-time : tie.Need-shared-slice-copy-out-time Inv-loop μ-loop
-shared-slice-copy-out-time c = places (c .before) .times
+shared-slice-copy-out-stamp : tie.Need-shared-slice-copy-out-stamp Inv-loop μ-loop
+shared-slice-copy-out-stamp c = places (c .before) .stamps
 
 mul-second : tie.Need-mul-second Inv-loop μ-loop
 mul-second c = search needs
@@ -112,25 +116,24 @@ array-read-kind c = search needs
 
 call-at-requires : tie.Need-call-at-requires Inv-loop μ-loop
 call-at-requires c κs =
-    let l = c .before .before .before .before .before in
-    let a = l .before .before .args in
+    let l = c .before .before .before .before .before .before .before in
     (lines-here l, ranges-here l)
 
-mul-t21 : tie.Need-mul-t21 Inv-loop μ-loop
-mul-t21 c = search needs
+mul-t23 : tie.Need-mul-t23 Inv-loop μ-loop
+mul-t23 c = search needs
 
 slice-set-from-answers : tie.Need-slice-set-from-answers Inv-loop μ-loop
-slice-set-from-answers c = places (c .before .before .before .before .before .before .before .before) .answers
+slice-set-from-answers c = places (c .before .before .before .before .before .before .before .before .before .before) .answers
 
 note-reading-requires : tie.Need-note-reading-requires Inv-loop μ-loop
-note-reading-requires c κs = places (c .before .before .before .before .before .before .before .before .before .before) .readings
+note-reading-requires c κs = places (c .before .before .before .before .before .before .before .before .before .before .before .before) .readings
 
 of-lines-requires : tie.Need-of-lines-requires Inv-loop μ-loop
 of-lines-requires c κs = search needs
 
 add-at : tie.Need-add-at Inv-loop μ-loop
 add-at c =
-    let s = c .before .before .before .before .before .before .before .before .before .before .before .before .before .before .before in
+    let s = c .before .before .before .before .before .before .before .before .before .before .before .before .before .before .before .before .before in
     record { fits = omega (arith, c .of-lines .ensures, filled-inside (turned (c .before) .lines), lists-fit s .1 .fits) }
 
 of-ranges-requires : tie.Need-of-ranges-requires Inv-loop μ-loop
@@ -139,13 +142,13 @@ of-ranges-requires c κs = search needs
 add-placed : tie.Need-add-placed Inv-loop μ-loop
 add-placed c =
     let r = c .before .before in
-    let s = r .before .before .before .before .before .before .before .before .before .before .before .before .before .before in
+    let s = r .before .before .before .before .before .before .before .before .before .before .before .before .before .before .before .before in
     record { fits = omega (arith, c .of-ranges .ensures, filled-inside (turned r .ranges), lists-fit s .2 .fits) }
 
 add-i : tie.Need-add-i Inv-loop μ-loop
 add-i c =
     let r = c .before .before .before in
-    let s = r .before .before .before .before .before .before .before .before .before .before .before .before .before .before in
+    let s = r .before .before .before .before .before .before .before .before .before .before .before .before .before .before .before .before in
     record { fits = omega (arith, turned r .inside, lists-fit s .0 .fits) }
 
 loop-less : tie.Need-loop-less Inv-loop μ-loop
@@ -180,13 +183,13 @@ run-from-spec =
     loop-holds
     mul-row
     shared-slice-copy-out-row
-    mul-time
-    shared-slice-copy-out-time
+    mul-stamp
+    shared-slice-copy-out-stamp
     mul-second
     shared-slice-copy-out-second
     array-read-kind
     call-at-requires
-    mul-t21
+    mul-t23
     slice-set-from-answers
     note-reading-requires
     of-lines-requires

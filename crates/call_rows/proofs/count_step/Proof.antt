@@ -28,14 +28,14 @@ returns c =
     let k = c .before in
     let s = k .before .before .before in
     let e : Done (k .before .answer .given .0 .0) ≡ s .args .answer = sym (k .before .answer .given .1) in
-    c .plain-step .ensures ∙ ap (λ (a : Count). countStep a (s .args .s)) e
+    c .plain-step .ensures ∙ ap (λ (a : Count). countStep a (s .args .h)) e
 
 returns-2 : tie.Need-returns-2
 returns-2 c =
     let k = c .before .before in
     let s = k .before .before .before in
     let e : Refused (k .before .answer2 .given .0 .0) ≡ s .args .answer = sym (k .before .answer2 .given .1) in
-    c .plain-step2 .ensures ∙ ap (λ (n : ℕ). plainStep n 0 (s .args .s)) (c .before .number-of .ensures) ∙ ap (λ (a : Count). countStep a (s .args .s)) e
+    c .plain-step2 .ensures ∙ ap (λ (n : ℕ). plainStep n 0 (s .args .h)) (c .before .number-of .ensures) ∙ ap (λ (a : Count). countStep a (s .args .h)) e
 
 pub count-step-spec : {M : Type 1} → statement M
 count-step-spec =

@@ -1,5 +1,6 @@
 -- Append or remove, each by its law.
 use Rattle.call_rows.proofs.ReplyLaws.{append-lined, remove-lined}
+use Rattle.call_rows.specs.Replies.{lent}
 use borrow.Author.Needs.{needs}
 use Rattle.call_rows.proofs.lines_step.Statement.{statement}
 use Rattle.call_rows.proofs.lines_step.Tie as tie
@@ -22,11 +23,11 @@ same-length c = search needs
 returns : tie.Need-returns
 returns c =
     let p = c .before .before .before in
-    let o = p .before .before in
+    let o = p .before .before .before .before in
     let s = o .before .before in
     let a = s .args in
-    append-lined (a .s) (a .t2) (a .times) (a .t4) (a .fates .now) (p .append .last .1 .1 .0) (p .append .result) (c .count-step .result) (c .count-step .ensures)
-    (o .offered-of .result) (o .before .if1 .taken) (o .offered-of .ensures) (p .append .ensures .0) (p .append .ensures .1)
+    append-lined (lent (a .h) (a .times .now) (a .tags .now)) (a .t2) (a .stamps) (a .t4) (a .fates .now) (p .append .result) (p .append .last .1 .1 .0) (p .append .last .1 .1 .1 .0) (p .append .last .1 .1 .1 .1 .0) (c .count-step .result) (c .count-step .ensures)
+    (o .offered-of .result) (o .before .if1 .taken) (o .offered-of .ensures) (p .append .ensures)
 
 array-read-start : tie.Need-array-read-start
 array-read-start c = search needs
@@ -46,10 +47,10 @@ same-length-2 c = search needs
 returns-2 : tie.Need-returns-2
 returns-2 c =
     let p = c .before .before .before in
-    let e = p .before .before in
+    let e = p .before .before .before .before in
     let a = e .before .args in
-    remove-lined (a .s) (a .t2) (a .times) (a .t4) (a .fates .now) (p .remove .last .1 .1 .1 .0) (p .remove .result) (c .count-step2 .result) (c .count-step2 .ensures)
-    (e .if1 .left) (p .remove .ensures .0) (p .remove .ensures .1)
+    remove-lined (lent (a .h) (a .times .now) (a .tags .now)) (a .t2) (a .stamps) (a .t4) (a .fates .now) (p .remove .result) (p .remove .last .1 .1 .1 .0) (p .remove .last .1 .1 .1 .1 .0) (p .remove .last .1 .1 .1 .1 .1 .0) (c .count-step2 .result) (c .count-step2 .ensures)
+    (e .if1 .left) (p .remove .ensures)
 
 pub lines-step-spec : {M : Type 1} → statement M
 lines-step-spec =

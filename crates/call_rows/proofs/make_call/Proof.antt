@@ -1,5 +1,6 @@
 -- By the kind of call: what the part for that kind says.
 use Rattle.call_rows.proofs.ReplyLaws.{made-lines, made-change, made-reading, made-ranges}
+use Rattle.call_rows.specs.Replies.{lent}
 use borrow.Author.Needs.{needs}
 use Rattle.call_rows.proofs.make_call.Statement.{statement}
 use Rattle.call_rows.proofs.make_call.Tie as tie
@@ -16,10 +17,10 @@ same-length c = search needs
 returns : tie.Need-returns
 returns c =
     let l = c .before in
-    let t = l .before .before in
+    let t = l .before .before .before .before in
     let a = t .before .args in
-    made-lines (a .s) (a .t2) (a .times) (a .t4) (a .fates .now) (l .lines-step .last .1 .1 .1 .1 .0) (a .list .now) (a .list .now)
-    (l .lines-step .result) (t .if1 .taken) (l .lines-step .ensures)
+    made-lines (lent (a .h) (a .times .now) (a .tags .now)) (a .t2) (a .stamps) (a .t4) (a .fates .now) (l .lines-step .last .1 .1 .1 .1 .1 .1 .0) (a .list .now) (a .list .now)
+    (l .lines-step .result) (l .lines-step .last .1 .1 .1 .1 .0) (l .lines-step .last .1 .1 .1 .1 .1 .0) (t .if1 .taken) (l .lines-step .ensures)
 
 array-read-changed : tie.Need-array-read-changed
 array-read-changed c = search needs
@@ -36,9 +37,9 @@ change-step-requires c κs = search needs
 returns-2 : tie.Need-returns-2
 returns-2 c =
     let k = c .before .before in
-    let t = k .before in
+    let t = k .before .before .before in
     let a = t .before .before .args in
-    made-change (a .s) (a .t2) (a .times) (a .t4) (a .fates .now) (a .fates .now) (a .list .now) (a .list .now)
+    made-change (lent (a .h) (a .times .now) (a .tags .now)) (a .t2) (a .stamps) (a .t4) (a .fates .now) (a .fates .now) (a .list .now) (a .list .now)
     (k .changed .result) (c .change-step .result) (t .before .if1 .left) (t .if2 .taken) (c .change-step .ensures) (k .changed .ensures)
 
 read-settings-requires : tie.Need-read-settings-requires
@@ -50,9 +51,10 @@ read-step-requires c κs = search needs
 returns-3 : tie.Need-returns-3
 returns-3 c =
     let k = c .before in
-    let a = k .before .before .before .before .args in
-    made-reading (a .s) (a .t2) (a .times) (a .t4) (a .fates .now) (a .fates .now) (a .list .now) (a .list .now)
-    (k .read-settings .result) (c .read-step .result) (k .before .if3 .taken) (k .read-settings .ensures) (c .read-step .ensures)
+    let t = k .before .before .before in
+    let a = t .before .before .before .args in
+    made-reading (lent (a .h) (a .times .now) (a .tags .now)) (a .t2) (a .stamps) (a .t4) (a .fates .now) (a .fates .now) (a .list .now) (a .list .now)
+    (k .read-settings .result) (c .read-step .result) (t .if3 .taken) (k .read-settings .ensures) (c .read-step .ensures)
 
 ranges-step-requires : tie.Need-ranges-step-requires
 ranges-step-requires c κs = search needs
@@ -63,9 +65,9 @@ same-length-2 c = search needs
 returns-4 : tie.Need-returns-4
 returns-4 c =
     let l = c .before in
-    let e = l .before .before in
+    let e = l .before .before .before .before in
     let a = e .before .before .before .args in
-    made-ranges (a .s) (a .t2) (a .times) (a .t4) (a .fates .now) (a .fates .now) (a .list .now) (l .ranges-step .last .1 .1 .0)
+    made-ranges (lent (a .h) (a .times .now) (a .tags .now)) (a .t2) (a .stamps) (a .t4) (a .fates .now) (a .fates .now) (a .list .now) (l .ranges-step .last .1 .1 .1 .1 .0)
     (l .ranges-step .result) (e .before .if2 .left) (e .if3 .left) (l .ranges-step .ensures)
 
 pub make-call-spec : {M : Type 1} → statement M

@@ -8,11 +8,8 @@ use borrow.Author.Needs.{needs}
 use Rattle.call_rows.proofs.offered_of.Statement.{statement}
 use Rattle.call_rows.proofs.offered_of.Tie as tie
 
-array-read-track-of : tie.Need-array-read-track-of
-array-read-track-of c = search needs
-
-track-of-requires : tie.Need-track-of-requires
-track-of-requires c κs = search needs
+array-read-track : tie.Need-array-read-track
+array-read-track c = search needs
 
 array-read-flagged : tie.Need-array-read-flagged
 array-read-flagged c = search needs
@@ -28,18 +25,16 @@ array-copy-out-dts c = search needs
 
 returns : tie.Need-returns
 returns c =
-    let a = c .before .before .before .args in
-    let track = c .before .before .track-of .ensures in
+    let a = c .before .before .args in
     let pts = toZ-ofZ w64 (getD (a .t2) 0 (pos 0)) (record { sfits = c .before .pts .given }) in
     let dts = toZ-ofZ w64 (getD (a .t2) 1 (pos 0)) (record { sfits = c .dts .given }) in
-    λ i. record { track = track i; flagged = flagOf (getD (a .t1) 2 0); duration = getD (a .t1) 3 0; pts = pts i; dts = dts i }
+    λ i. record { track = getD (a .t1) 1 0; flagged = flagOf (getD (a .t1) 2 0); duration = getD (a .t1) 3 0; pts = pts i; dts = dts i }
 
 pub offered-of-spec : {M : Type 1} → statement M
 offered-of-spec =
     tie.close
     (tie.spec
-    array-read-track-of
-    track-of-requires
+    array-read-track
     array-read-flagged
     array-read-duration
     array-copy-out-pts

@@ -29,7 +29,7 @@ returns c =
     let s = c .before .before .before in
     let g = c .before .answer .given in
     let e : Bounded (g .0 .0) (g .0 .1 .0) (g .0 .1 .1 .0) ≡ s .args .answer = sym (g .1) in
-    ap (λ (a : Read). readStep a (s .args .s)) e
+    ap (λ (a : Read). readStep a (s .args .h)) e
 
 returns-2 : tie.Need-returns-2
 unfolding ofBits
@@ -37,14 +37,14 @@ returns-2 c =
     let s = c .before .before .before in
     let g = c .before .answer2 .given in
     let e : Unbounded (g .0 .0) (g .0 .1 .0) ≡ s .args .answer = sym (g .1) in
-    ap (λ (a : Read). readStep a (s .args .s)) e
+    ap (λ (a : Read). readStep a (s .args .h)) e
 
 returns-3 : tie.Need-returns-3
 returns-3 c =
     let k = c .before .before in
     let s = k .before .before .before in
     let e : Refused (k .before .answer3 .given .0 .0) ≡ s .args .answer = sym (k .before .answer3 .given .1) in
-    c .plain-step .ensures ∙ ap (λ (n : ℕ). plainStep n 0 (s .args .s)) (c .before .number-of .ensures) ∙ ap (λ (a : Read). readStep a (s .args .s)) e
+    c .plain-step .ensures ∙ ap (λ (n : ℕ). plainStep n 0 (s .args .h)) (c .before .number-of .ensures) ∙ ap (λ (a : Read). readStep a (s .args .h)) e
 
 pub read-step-spec : {M : Type 1} → statement M
 read-step-spec =

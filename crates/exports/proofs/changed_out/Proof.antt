@@ -10,10 +10,8 @@ use Rattle.exports.proofs.changed_out.Tie as tie
 enum-told : tie.Need-enum-told
 enum-told c = search needs
 
-head-out-requires : tie.Need-head-out-requires
-head-out-requires c κs =
-    let e : c .before .before .args .answer ≡ Done = cc in
-    c .before .before .pre e
+done-requires : tie.Need-done-requires
+done-requires c κs = search needs
 
 enum-known-answer : tie.Need-enum-known-answer
 enum-known-answer c = search needs
@@ -25,16 +23,16 @@ returns : tie.Need-returns
 returns c =
     let a = c .before .before .before .args in
     let e : Done ≡ a .answer = cc in
-    c .head-out .ensures ∙ ap (λ (t : Answer). changedOut (a .c) t (a .s)) e
+    c .done .ensures ∙ ap (λ (t : Answer). changedOut (a .c) t (a .h)) e
 
 returns-2 : tie.Need-returns-2
 returns-2 c =
     let a = c .before .before .before .before .args in
     let g = c .before .before .answer .given in
     let e : Refused (g .0 .0) ≡ a .answer = sym (g .1) in
-    c .refused .ensures ∙ ap (λ (t : Answer). changedOut (a .c) t (a .s)) e
+    c .refused .ensures ∙ ap (λ (t : Answer). changedOut (a .c) t (a .h)) e
 
 pub changed-out-spec : {M : Type 1} → statement M
 changed-out-spec =
     tie.close
-    (tie.spec enum-told head-out-requires enum-known-answer refused-requires returns returns-2)
+    (tie.spec enum-told done-requires enum-known-answer refused-requires returns returns-2)

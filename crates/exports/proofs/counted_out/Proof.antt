@@ -10,8 +10,8 @@ use Rattle.exports.proofs.counted_out.Tie as tie
 enum-known-answer : tie.Need-enum-known-answer
 enum-known-answer c = search needs
 
-flat-of-requires : tie.Need-flat-of-requires
-flat-of-requires c κs = search needs
+done-requires : tie.Need-done-requires
+done-requires c κs = search needs
 
 enum-known-answer-2 : tie.Need-enum-known-answer-2
 enum-known-answer-2 c = search needs
@@ -24,21 +24,21 @@ returns c =
     let a = c .before .before .before .before .args in
     let g = c .before .before .answer .given in
     let e : Done (g .0 .0) ≡ a .answer = sym (g .1) in
-    c .flat-of .ensures ∙ ap (λ (t : Count). countedOut (a .c) t (a .s)) e
+    c .done .ensures ∙ ap (λ (t : Count). countedOut (a .c) t (a .h)) e
 
 returns-2 : tie.Need-returns-2
 returns-2 c =
     let a = c .before .before .before .before .args in
     let g = c .before .before .answer2 .given in
     let e : Refused (g .0 .0) ≡ a .answer = sym (g .1) in
-    c .refused .ensures ∙ ap (λ (t : Count). countedOut (a .c) t (a .s)) e
+    c .refused .ensures ∙ ap (λ (t : Count). countedOut (a .c) t (a .h)) e
 
 pub counted-out-spec : {M : Type 1} → statement M
 counted-out-spec =
     tie.close
     (tie.spec
     enum-known-answer
-    flat-of-requires
+    done-requires
     enum-known-answer-2
     refused-requires
     returns

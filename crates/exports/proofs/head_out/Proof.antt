@@ -1,5 +1,4 @@
--- The frames are those that came; the other parts as they are told.
-use mathlib.Core.Path.{sym}
+-- The parts as they are told.
 use borrow.Author.Needs.{needs}
 use Rattle.exports.proofs.head_out.Statement.{statement}
 use Rattle.exports.proofs.head_out.Tie as tie
@@ -18,25 +17,18 @@ settings-out-requires c κs = search needs
 
 returns : tie.Need-returns
 returns c =
-    let settings = c .before in
-    let group = settings .before in
+    let group = c .before in
     let mode = group .before in
     let tracks = mode .before in
-    let start = tracks .before .before in
-    let frames = sym (start .pre .frames) in
-    let nframes = sym (start .pre .nframes) in
-    let s = start .args .s in
+    let h = tracks .before .before .args .h in
     λ j. record {
-      frames = frames j;
-      nframes = nframes j;
       tracks = tracks .tracks-out .ensures j;
-      ntracks = s .ntracks;
+      ntracks = h .ntracks;
+      nframes = h .nframes;
       mode = mode .mode-out .ensures j;
-      last = s .last;
+      last = h .last;
       group = group .group-out .ensures j;
-      settings = settings .settings-out .ensures j;
-      refusal = 0;
-      count = 0;
+      settings = c .settings-out .ensures j;
     }
 
 pub head-out-spec : {M : Type 1} → statement M

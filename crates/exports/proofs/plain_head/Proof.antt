@@ -1,6 +1,7 @@
 -- Test by test.
 use mathlib.Core.Bool.{_&&_}
 use lib.Dec.{leb}
+use Rattle.exports.specs.Flat.{plain}
 use borrow.Author.Needs.{needs}
 use Rattle.exports.proofs.plain_head.Statement.{statement}
 use Rattle.exports.proofs.plain_head.Tie as tie
@@ -12,6 +13,7 @@ plain-tracks-requires : tie.Need-plain-tracks-requires
 plain-tracks-requires c κs = search needs
 
 returns : tie.Need-returns
+unfolding plain
 returns c = let tracks = c .before .before .plain-tracks .ensures in
     let end = c .before .before .before .before .plain-end .ensures in
     let a = c .before .before .before .before .before .before .before .args .c in

@@ -1,4 +1,4 @@
--- The number is the table's; all else is as it came.
+-- The number is the table's; the head is as it came.
 use borrow.Author.Needs.{needs}
 use Rattle.exports.proofs.refused.Statement.{statement}
 use Rattle.exports.proofs.refused.Tie as tie
@@ -7,7 +7,7 @@ refusal-number-requires : tie.Need-refusal-number-requires
 refusal-number-requires c κs = search needs
 
 returns : tie.Need-returns
-returns c = rw (c .before .before .before .before .refusal-number .ensures)
+returns c = rw (c .refusal-number .ensures)
 
 pub refused-spec : {M : Type 1} → statement M
 refused-spec = tie.close (tie.spec refusal-number-requires returns)

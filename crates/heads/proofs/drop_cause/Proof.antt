@@ -11,9 +11,9 @@ use Rattle.laws.proofs.WordLaws.{told₂}
 use Rattle.buffer_state.specs.declared.Track.{Track}
 use Rattle.buffer_state.specs.Append.{Pass, endOffered, beforeWindow, above, pastWindow, lacksRandomAccess}
 use Rattle.buffer_state.specs.Buffer.{Buffer}
-use Rattle.validation.proofs.LimitLaws.{end-fits}
-use Rattle.heads.specs.declared.Head.{Head}
-use Rattle.heads.specs.Heads.{headOf}
+use Rattle.limits.proofs.LimitLaws.{end-fits}
+use Rattle.buffer_state.specs.declared.Head.{Head}
+use Rattle.buffer_state.specs.Lent.{headOf}
 use Rattle.heads.proofs.CauseLaws.{cause-one, cause-two, cause-three, cause-none}
 use Rattle.heads.proofs.drop_cause.Statement.{statement}
 use Rattle.heads.proofs.drop_cause.Tie as tie

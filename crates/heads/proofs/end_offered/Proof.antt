@@ -6,7 +6,7 @@ use mir.Syntax.{w64}
 use mir.ValLaws.{toZ-ofZ}
 use Rattle.buffer_state.specs.Append.{endOffered}
 use Rattle.buffer_state.specs.Buffer.{endOf}
-use Rattle.validation.proofs.LimitLaws.{end-fits}
+use Rattle.limits.proofs.LimitLaws.{end-fits}
 use Rattle.heads.proofs.end_offered.Statement.{statement}
 use Rattle.heads.proofs.end_offered.Tie as tie
 

@@ -9,8 +9,8 @@ use mir.Val.{SFits}
 use Rattle.laws.proofs.WordLaws.{told}
 use Rattle.buffer_state.specs.Append.{endOffered}
 use Rattle.buffer_state.specs.Limits.{resultTime}
-use Rattle.validation.proofs.LimitLaws.{end-fits}
-use Rattle.heads.specs.declared.Head.{Head}
+use Rattle.limits.proofs.LimitLaws.{end-fits}
+use Rattle.buffer_state.specs.declared.Head.{Head}
 use Rattle.heads.proofs.PassLaws.{fits-not, fits-all}
 use Rattle.heads.proofs.fits.Statement.{statement}
 use Rattle.heads.proofs.fits.Tie as tie

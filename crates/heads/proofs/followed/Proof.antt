@@ -9,7 +9,7 @@ use mir.Val.{SFits}
 use mir.ValLaws.{toZ-ofZ}
 use Rattle.laws.proofs.WordLaws.{told}
 use Rattle.buffer_state.specs.Append.{endOffered, raised}
-use Rattle.validation.proofs.LimitLaws.{end-fits}
+use Rattle.limits.proofs.LimitLaws.{end-fits}
 use Rattle.heads.proofs.FitLaws.{highest-fits}
 use Rattle.heads.proofs.followed.Statement.{statement}
 use Rattle.heads.proofs.followed.Tie as tie

@@ -1,7 +1,6 @@
 -- The first pass, and where it breaks, the pass from the regrouped head: each as it is told, of the buffer and of the bare head.
 use mathlib.Core.Path.{_≡_, sym, ap, subst, _∙_}
 use mathlib.Core.Bool.{true}
-use mathlib.Core.List.{[]}
 use borrow.Author.Needs.{needs}
 use borrow.Author.Tests.{not-true, not-false}
 use mir.Syntax.{w64}
@@ -10,7 +9,8 @@ use Rattle.laws.proofs.WordLaws.{told}
 use Rattle.buffer_state.specs.Append.{passOf, fits, breaks, regrouped}
 use Rattle.buffer_state.specs.Buffer.{Buffer}
 use Rattle.heads.specs.declared.Passed.{Passed}
-use Rattle.heads.specs.Heads.{headOf, headBuffer, passedAs, GoodHead}
+use Rattle.buffer_state.specs.Lent.{headOf}
+use Rattle.heads.specs.Heads.{passedAs, GoodHead}
 use Rattle.heads.proofs.HeadLaws.{head-few}
 use Rattle.heads.proofs.PassLaws.{first-head, again-head, first-track, decides-out, decides-first, decides-second}
 use Rattle.heads.proofs.last_pass.Statement.{statement}
@@ -38,7 +38,7 @@ good : (c : tie.Else1) → GoodHead (c .before .before .pass .result .head)
 good c =
     let p = c .before .before in
     let s = p .before in
-    let b = headBuffer (s .args .h) [] in
+    let b = s .pre .0 .held in
     subst (λ (q : Passed). GoodHead (q .head)) (sym (p .pass .ensures b (s .pre .0 .laid))) (first-head (s .args .h) (s .args .f) (s .pre .0) (fitting c b (s .pre .0 .laid)))
 
 breaks-requires : tie.Need-breaks-requires
@@ -46,7 +46,7 @@ breaks-requires c κs =
     let e = c .before .before in
     let p = e .before .before in
     let s = p .before in
-    (good e, rw (p .pass .ensures (headBuffer (s .args .h) []) (s .pre .0 .laid)) (first-track (s .args .h) (s .args .f) (s .pre .0) (s .pre .2)))
+    (good e, rw (p .pass .ensures (s .pre .0 .held) (s .pre .0 .laid)) (first-track (s .args .h) (s .args .f) (s .pre .0) (s .pre .2)))
 
 -- the first pass, from where step 3 asked and from where the second begins
 abbrev first₁ : tie.After-breaks → tie.After-pass
@@ -92,7 +92,7 @@ pass-requires-2 : tie.Need-pass-requires-2
 pass-requires-2 c κs =
     let i = c .before .before .before .before .before .before in
     let s = i .before .before .before in
-    let b = headBuffer (s .args .h) [] in
+    let b = s .pre .0 .held in
     (subst GoodHead (sym (again c b (s .pre .0 .laid))) (again-head (s .args .h) (s .args .f) (s .pre .0) (fitting i b (s .pre .0 .laid))), s .pre .1)
 
 returns-3 : tie.Need-returns-3

@@ -3,7 +3,7 @@ use mathlib.Core.Path.{ap, _∙_}
 use borrow.Author.Needs.{needs}
 use Rattle.buffer_state.specs.declared.Track.{Track}
 use Rattle.buffer_state.specs.Buffer.{withTrack, withNeed}
-use Rattle.heads.specs.Heads.{headOf}
+use Rattle.buffer_state.specs.Lent.{headOf}
 use Rattle.heads.proofs.need_track.Statement.{statement}
 use Rattle.heads.proofs.need_track.Tie as tie
 

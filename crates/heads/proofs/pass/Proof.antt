@@ -1,10 +1,9 @@
 -- Each step as it is told, of the same buffer.
 use mathlib.Core.Path.{_≡_, ap, _∙_}
-use mathlib.Core.List.{[]}
 use borrow.Author.Needs.{needs}
 use Rattle.buffer_state.specs.declared.Offered.{Offered}
 use Rattle.buffer_state.specs.Append.{stepOne, stepTwo, passOf, fits}
-use Rattle.heads.specs.Heads.{headOf, headBuffer}
+use Rattle.buffer_state.specs.Lent.{headOf}
 use Rattle.heads.proofs.FitLaws.{offered-pts}
 use Rattle.heads.proofs.HeadLaws.{head-good, one-offset}
 use Rattle.heads.proofs.pass.Statement.{statement}
@@ -18,7 +17,7 @@ step-two-requires c κs =
     let s = c .before in
     let h = s .args .h in
     let f = s .args .f in
-    (rw (c .step-one .ensures (headBuffer h []) (s .pre .0 .laid)) (one-offset (headBuffer h []) f (head-good h (s .pre .0)) (offered-pts f (s .pre .1))), s .pre .1)
+    (rw (c .step-one .ensures (s .pre .0 .held) (s .pre .0 .laid)) (one-offset (s .pre .0 .held) f (head-good h (s .pre .0)) (offered-pts f (s .pre .1))), s .pre .1)
 
 fits-requires : tie.Need-fits-requires
 fits-requires c κs = search needs

@@ -14,7 +14,7 @@ use Rattle.buffer_state.specs.Buffer.{isSequence}
 use Rattle.buffer_state.specs.Limits.{resultTime}
 use Rattle.buffer_laws.proofs.GoodLaws.{group-start}
 use Rattle.heads.proofs.FitLaws.{offset-fits, offset-exact, offered-pts}
-use Rattle.heads.proofs.HeadLaws.{head-few, head-good, one-stays, one-begins}
+use Rattle.heads.proofs.HeadLaws.{head-few, head-group, one-stays, one-begins}
 use Rattle.heads.proofs.step_one.Statement.{statement}
 use Rattle.heads.proofs.step_one.Tie as tie
 
@@ -38,7 +38,7 @@ started : (c : tie.Else1) → resultTime (c .before .before .args .h .group .sta
 started c =
     let s = c .before .before in
     let h = s .args .h in
-    group-start (h .group) (head-good h (s .pre .0) .group) (and-right (isSequence (h .mode)) _ (begun c))
+    group-start (h .group) (head-group h (s .pre .0)) (and-right (isSequence (h .mode)) _ (begun c))
 
 offset-to-requires : tie.Need-offset-to-requires
 offset-to-requires c κs =

@@ -6,7 +6,7 @@ use mir.Syntax.{w64}
 use mir.ValLaws.{toZ-ofZ}
 use Rattle.laws.proofs.WordLaws.{told₂}
 use Rattle.buffer_state.specs.Append.{stepTwo}
-use Rattle.heads.specs.declared.Head.{Head}
+use Rattle.buffer_state.specs.declared.Head.{Head}
 use Rattle.heads.proofs.FitLaws.{plus-fits, offered-pts, offered-dts}
 use Rattle.heads.proofs.step_two.Statement.{statement}
 use Rattle.heads.proofs.step_two.Tie as tie

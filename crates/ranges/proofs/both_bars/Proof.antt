@@ -1,66 +1,96 @@
--- The invariant: what is found, with what the ranges from i and j on have in common, is all.
-use mathlib.Core.Path.{refl, sym, _∙_}
+-- The invariant: what is found, with what the ranges from i and j on have in common, is all; and it ends before the range at i.
+use mathlib.Core.Path.{refl, sym, ap, subst, _∙_}
+use mathlib.Core.List.{List}
 use Prim.Native.Nat.{_+_, _-_, _≤_, _<_}
 use native.Mathlib.Omega.{arith}
+use lib.IntN.{ℤ}
+use lib.ListN.{take, drop}
 use borrow.Author.Tests.{ltb-true, ltb-false}
-use Rattle.laws.proofs.ListLaws.{mapped-length}
-use Rattle.ranges.proofs.MeetLaws.{Meeting, one-at-most, left-more, right-more, left-over, right-over}
+use Rattle.buffer_state.specs.Ranges.{rising, common}
+use Rattle.ranges.specs.Bars.{rangeOf, Shows}
+use Rattle.ranges.specs.Read.{rangesIn}
+use Rattle.ranges.proofs.MeetLaws.{rest, Meeting, one-at-most, left-more, right-more, left-over, right-over}
 use borrow.Author.Needs.{needs}
 use Rattle.ranges.proofs.both_bars.Statement.{statement}
 use Rattle.ranges.proofs.both_bars.Tie as tie
 
 abbrev Inv-loop : tie.InvT-loop
-Inv-loop a b spans₀ m n k₀ i₀ j₀ spans k i j = (i ≤ m) × (j ≤ n) × (k ≤ i + j) × Meeting (a .spans) (b .spans) m n spans k i j
+Inv-loop spans₀ m more n k₀ i₀ j₀ spans k i j =
+    (i ≤ 1024) × (j ≤ n) × (k + 1024 ≤ i + m + j) × Meeting spans k i more n j (common (rest (1024 - m) spans₀) (rangesIn (take n more)))
 
 abbrev μ-loop : tie.MeasureT-loop
-μ-loop a b spans₀ m n k₀ i₀ j₀ spans k i j = (m - i) + (n - j)
+μ-loop spans₀ m more n k₀ i₀ j₀ spans k i j = (1024 - i) + (n - j)
 
--- the second list has a range left
-right-left : (c : tie.Then1 Inv-loop μ-loop) → c .before .before .loop .j < c .before .before .before .before .args .t2 .count
-right-left c = ltb-true _ _ (c .if1 .taken)
+abbrev start : tie.At-loop Inv-loop μ-loop → tie.Start Inv-loop μ-loop
+start d = d .before .before .before .before
+
+-- the second list has a range left, and the next place is in front of the range that is read
+right-left : (t : tie.Then1 Inv-loop μ-loop) → t .before .before .loop .j < start (t .before .before) .args .n
+right-left t = ltb-true _ _ (t .if1 .taken)
+
+room : (t : tie.Then1 Inv-loop μ-loop) → t .before .before .loop .k < t .before .before .loop .i
+room t = let d = t .before .before in omega (arith, right-left t, d .loop .inv .2, start d .pre .0 .few)
+
+-- the spans that were moved are the first m
+abbrev Met : tie.At-loop Inv-loop μ-loop → List (List ℤ) → Type 0
+Met d l = Shows (d .loop .spans) (d .loop .k) (common (rangesIn l) (rangesIn (take (start d .args .n) (start d .args .more .now))))
+
+met : (d : tie.At-loop Inv-loop μ-loop) → Met d (drop (1024 - start d .args .m) (d .before .before .move-to-end .last .0))
+    → Met d (take (start d .args .m) (start d .args .spans .now))
+met d = subst (Met d) (d .before .before .move-to-end .ensures)
 
 one : (c : tie.After-places-of Inv-loop μ-loop) → c .places-of .result ≤ 1
-one c = one-at-most _ (c .before .both .result) (c .places-of .ensures)
+one c = one-at-most _ (rangeOf (c .before .before .before .before .both .result)) (c .places-of .ensures)
 
-zero-span-requires : tie.Need-zero-span-requires Inv-loop μ-loop
-zero-span-requires c κs = search needs
+abbrev opening : tie.After-places-of Inv-loop μ-loop → tie.Then1 Inv-loop μ-loop
+opening p = p .before .before .before .before .before .before .before .before .before
+
+move-to-end-requires : tie.Need-move-to-end-requires Inv-loop μ-loop
+move-to-end-requires c κs = (omega (arith, c .before .pre .0 .few), c .before .pre .1)
+
+sub-i : tie.Need-sub-i Inv-loop μ-loop
+sub-i c = omega (arith, c .before .before .before .pre .0 .few)
 
 loop-holds : tie.Need-loop-holds Inv-loop μ-loop
 loop-holds c =
-    let s = c .before in (
+    let e = c .before in
+    let s = e .before .before in
+    let moved = e .move-to-end .ensures in (
       search needs,
       search needs,
-      search needs,
+      omega (arith, s .pre .0 .few),
       record {
-        left-full = rw (mapped-length _ (s .args .t1 .spans) 1024 (s .good .0 .1 .1 .0 .1 .0 .1)) (omega (arith, s .pre .few));
-        right-full = rw (mapped-length _ (s .args .t2 .spans) 1024 (s .good .1 .0 .1 .1 .0 .1 .0 .1)) (omega (arith, s .pre .few));
-        size = refl;
-        left = s .pre .left;
-        right = s .pre .right;
-        all = refl;
+        right-full = s .pre .0 .right-full;
+        size = e .move-to-end .kept .0 ∙ s .pre .1;
+        left = ap (λ (l : List (List ℤ)). rising (rangesIn l)) moved ∙ s .pre .0 .left;
+        right = s .pre .0 .right;
+        rows = refl;
       },
     )
 
-mul-x : tie.Need-mul-x Inv-loop μ-loop
-mul-x c = search needs
+mul-span-in : tie.Need-mul-span-in Inv-loop μ-loop
+mul-span-in c = search needs
 
-element-copy-out-x : tie.Need-element-copy-out-x Inv-loop μ-loop
-element-copy-out-x c = search needs
+slice-copy-out-span-in : tie.Need-slice-copy-out-span-in Inv-loop μ-loop
+slice-copy-out-span-in c = search needs
 
-mul-y : tie.Need-mul-y Inv-loop μ-loop
-mul-y c = search needs
+span-in-requires : tie.Need-span-in-requires Inv-loop μ-loop
+span-in-requires c κs = search needs
 
-element-copy-out-y : tie.Need-element-copy-out-y Inv-loop μ-loop
-element-copy-out-y c = search needs
+mul-span-in-2 : tie.Need-mul-span-in-2 Inv-loop μ-loop
+mul-span-in-2 c = search needs
+
+shared-slice-copy-out-span-in : tie.Need-shared-slice-copy-out-span-in Inv-loop μ-loop
+shared-slice-copy-out-span-in c = let t = c .before .before in omega (arith, right-left t, t .before .before .loop .inv .3 .right-full)
+
+span-in-requires-2 : tie.Need-span-in-requires-2 Inv-loop μ-loop
+span-in-requires-2 c κs = search needs
 
 both-requires : tie.Need-both-requires Inv-loop μ-loop
 both-requires c κs = search needs
 
-mul-spans : tie.Need-mul-spans Inv-loop μ-loop
-mul-spans c = search needs
-
-array-set-from-spans : tie.Need-array-set-from-spans Inv-loop μ-loop
-array-set-from-spans c = search needs
+put-requires : tie.Need-put-requires Inv-loop μ-loop
+put-requires c κs = let t = c .before .before .before .before .before .before in omega (arith, room t, t .before .loop-test .taken, t .before .before .loop .inv .3 .size)
 
 places-of-requires : tie.Need-places-of-requires Inv-loop μ-loop
 places-of-requires c κs = search needs
@@ -80,36 +110,50 @@ loop-less c = search needs
 loop-again : tie.Need-loop-again Inv-loop μ-loop
 loop-again c =
     let p = c .before .before in
-    let t = p .before .before .before .before in (
+    let t = opening p in
+    let d = t .before .before in
+    let u = p .before .before in
+    let z = u .before .before in
+    let y = z .before in (
       search needs,
       search needs,
       omega (arith, one p),
-      left-more (t .before .before .loop .inv .3) (t .before .loop-test .taken) (right-left t) (search needs)
-          (p .before .both .result) (p .before .both .ensures) _ (p .places-of .ensures) (sym (c .before .ends-sooner .ensures) ∙ c .if2 .taken),
+      left-more (d .loop .inv .3) (t .before .loop-test .taken) (right-left t) (room t) _ _ _ (y .before .before .span-in .ensures) (y .span-in2 .ensures)
+          (z .both .ensures) _ (u .put .ensures) _ (p .places-of .ensures) (sym (c .before .ends-sooner .ensures) ∙ c .if2 .taken),
     )
 
 add-j : tie.Need-add-j Inv-loop μ-loop
 add-j c = search needs
 
 loop-less-2 : tie.Need-loop-less-2 Inv-loop μ-loop
-loop-less-2 c = omega (arith, right-left (c .before .before .before .before .before .before))
+loop-less-2 c = omega (arith, right-left (opening (c .before .before)))
 
 loop-again-2 : tie.Need-loop-again-2 Inv-loop μ-loop
 loop-again-2 c =
     let p = c .before .before in
-    let t = p .before .before .before .before in (
+    let t = opening p in
+    let d = t .before .before in
+    let u = p .before .before in
+    let z = u .before .before in
+    let y = z .before in (
       search needs,
       omega (arith, right-left t),
       omega (arith, one p),
-      right-more (t .before .before .loop .inv .3) (t .before .loop-test .taken) (right-left t) (search needs)
-          (p .before .both .result) (p .before .both .ensures) _ (p .places-of .ensures) (sym (c .before .ends-sooner .ensures) ∙ c .if2 .left),
+      right-more (d .loop .inv .3) (t .before .loop-test .taken) (right-left t) (room t) _ _ _ (y .before .before .span-in .ensures) (y .span-in2 .ensures)
+          (z .both .ensures) _ (u .put .ensures) _ (p .places-of .ensures) (sym (c .before .ends-sooner .ensures) ∙ c .if2 .left),
     )
 
+same-length : tie.Need-same-length Inv-loop μ-loop
+same-length c = search needs
+
 returns : tie.Need-returns Inv-loop μ-loop
-returns c = (right-over (c .before .before .loop .inv .3) (ltb-false _ _ (c .if1 .left)) (search needs), search needs)
+returns c = let d = c .before .before in (met d (right-over (d .loop .inv .3) (ltb-false _ _ (c .if1 .left)) (omega (arith, d .loop .inv .0, d .loop .inv .1, d .loop .inv .2))), search needs)
+
+same-length-2 : tie.Need-same-length-2 Inv-loop μ-loop
+same-length-2 c = search needs
 
 returns-2 : tie.Need-returns-2 Inv-loop μ-loop
-returns-2 c = (left-over (c .before .loop .inv .3) (c .loop-test .left) (search needs), search needs)
+returns-2 c = let d = c .before in (met d (left-over (d .loop .inv .3) (c .loop-test .left) (search needs)), search needs)
 
 pub both-bars-spec : {M : Type 1} → statement M
 both-bars-spec =
@@ -117,15 +161,17 @@ both-bars-spec =
     (tie.spec
     Inv-loop
     μ-loop
-    zero-span-requires
+    move-to-end-requires
+    sub-i
     loop-holds
-    mul-x
-    element-copy-out-x
-    mul-y
-    element-copy-out-y
+    mul-span-in
+    slice-copy-out-span-in
+    span-in-requires
+    mul-span-in-2
+    shared-slice-copy-out-span-in
+    span-in-requires-2
     both-requires
-    mul-spans
-    array-set-from-spans
+    put-requires
     places-of-requires
     add-k
     ends-sooner-requires
@@ -135,5 +181,7 @@ both-bars-spec =
     add-j
     loop-less-2
     loop-again-2
+    same-length
     returns
+    same-length-2
     returns-2)

@@ -1,49 +1,44 @@
 -- The invariant: the keys found, with those of the frames from i on, are all of the track's keys.
-use mathlib.Core.Path.{refl}
-use Prim.Native.Nat.{_≤_, _-_}
-use Rattle.buffer_state.specs.Layout.{zeroFrame}
-use Rattle.buffer_state.specs.WellFormed.{goodFrame}
-use Rattle.laws.proofs.ListLaws.{mapped-length}
-use Rattle.ranges.proofs.BarLaws.{each}
+use mathlib.Core.Path.{refl, sym, ap, _∙_}
+use Prim.Native.Nat.{_-_, _≤_, _<_}
+use native.Mathlib.Omega.{arith}
+use Rattle.buffer_state.specs.declared.Frame.{Frame}
+use Rattle.buffer_state.specs.Lent.{framesOf}
+use Rattle.ranges.specs.Sweep.{keyOf}
+use Rattle.ranges.proofs.StoredLaws.{stored-full, stored-timely}
 use Rattle.ranges.proofs.KeyLaws.{Found, own-key, other-key, all-keys}
-use Rattle.ranges.proofs.TimeLaws.{good-timely}
 use borrow.Author.Needs.{needs}
 use Rattle.ranges.proofs.track_keys.Statement.{statement}
 use Rattle.ranges.proofs.track_keys.Tie as tie
 
 abbrev Inv-loop : tie.InvT-loop
-Inv-loop track s n keys₀ k₀ i₀ keys k i = (i ≤ n) × (k ≤ i) × Found track (s .frames) n keys k i
+Inv-loop times tags n track keys₀ k₀ i₀ keys k i = (i ≤ n) × (k ≤ i) × Found track (framesOf times tags) n keys k i
 
 abbrev μ-loop : tie.MeasureT-loop
-μ-loop track s n keys₀ k₀ i₀ keys k i = n - i
+μ-loop times tags n track keys₀ k₀ i₀ keys k i = n - i
 
 loop-holds : tie.Need-loop-holds Inv-loop μ-loop
-loop-holds c = (
-  search needs,
-  search needs,
-  record { full = rw (mapped-length _ (c .args .t1 .frames) 1024 (c .good .0 .1 .1 .0 .1 .0 .1)) (c .pre .few); size = refl; all = refl },
-)
+loop-holds c = (search needs, search needs, record { full = stored-full (c .before .pre .0); size = c .before .pre .1; all = refl })
 
-mul-f : tie.Need-mul-f Inv-loop μ-loop
-mul-f c = search needs
-
-element-copy-out-f : tie.Need-element-copy-out-f Inv-loop μ-loop
-element-copy-out-f c = search needs
+frame-at-requires : tie.Need-frame-at-requires Inv-loop μ-loop
+frame-at-requires c κs =
+    let s = c .before .before .before .pre .0 in
+    let h = c .loop-test .taken in
+    (omega (arith, h, s .few, s .long .0), omega (arith, h, s .few, s .long .1))
 
 key-of-requires : tie.Need-key-of-requires Inv-loop μ-loop
 key-of-requires c κs =
-    let d = c .before .before .before .before in
-    let a = d .before .args .t1 in (
-      good-timely (a .ntracks) (a .last) _
-          (each (a .frames) (goodFrame (a .ntracks) (a .last)) (d .loop .i) (a .nframes) zeroFrame (c .before .before .before .loop-test .taken) (d .loop .inv .2 .full) (d .before .pre .good)),
-      search needs,
-    )
+    let b = c .before .before in
+    let d = b .before .before in
+    let s = d .before .before .pre .0 in
+    let h = b .before .loop-test .taken in
+    (stored-timely s (d .loop .i) h _ (b .frame-at .ensures), omega (arith, h, s .few))
 
 mul-keys : tie.Need-mul-keys Inv-loop μ-loop
 mul-keys c = search needs
 
-array-write-keys : tie.Need-array-write-keys Inv-loop μ-loop
-array-write-keys c = search needs
+slice-write-keys : tie.Need-slice-write-keys Inv-loop μ-loop
+slice-write-keys c = search needs
 
 add-k : tie.Need-add-k Inv-loop μ-loop
 add-k c = search needs
@@ -56,8 +51,16 @@ loop-less c = search needs
 
 loop-again : tie.Need-loop-again Inv-loop μ-loop
 loop-again c =
-    let t = c .before .before .before .before in
-    (search needs, search needs, own-key (t .before .loop .inv .2) (t .loop-test .taken) (search needs) _ (c .key-of .ensures) (c .before .if1 .taken))
+    let t = c .before in
+    let b = t .before .before in
+    let d = b .before .before in
+    let h : d .loop .i < d .before .before .args .n = b .before .loop-test .taken in
+    let f = b .frame-at .ensures in (
+      omega (arith, h),
+      omega (arith, d .loop .inv .1),
+      own-key (d .loop .inv .2) h (omega (arith, h, d .loop .inv .1, d .before .before .pre .0 .few)) _ (c .key-of .ensures ∙ ap (keyOf (d .loop .i)) f)
+          (sym (ap (λ (g : Frame). g .track) f) ∙ t .if1 .taken),
+    )
 
 add-i-2 : tie.Need-add-i-2 Inv-loop μ-loop
 add-i-2 c = search needs
@@ -67,11 +70,18 @@ loop-less-2 c = search needs
 
 loop-again-2 : tie.Need-loop-again-2 Inv-loop μ-loop
 loop-again-2 c =
-    let t = c .before .before .before in
-    (search needs, search needs, other-key (t .before .loop .inv .2) (t .loop-test .taken) (c .if1 .left))
+    let b = c .before .before in
+    let d = b .before .before in
+    let h : d .loop .i < d .before .before .args .n = b .before .loop-test .taken in
+    (omega (arith, h), omega (arith, d .loop .inv .1), other-key (d .loop .inv .2) h (λ e. c .if1 .left (ap (λ (g : Frame). g .track) (b .frame-at .ensures) ∙ e)))
+
+same-length : tie.Need-same-length Inv-loop μ-loop
+same-length c = search needs
 
 returns : tie.Need-returns Inv-loop μ-loop
-returns c = all-keys (c .before .loop .inv .2) (c .loop-test .left) (search needs)
+returns c =
+    let d = c .before in
+    all-keys (d .loop .inv .2) (c .loop-test .left) (omega (arith, d .loop .inv .0, d .loop .inv .1, d .before .before .pre .0 .few))
 
 pub track-keys-spec : {M : Type 1} → statement M
 track-keys-spec =
@@ -80,11 +90,10 @@ track-keys-spec =
     Inv-loop
     μ-loop
     loop-holds
-    mul-f
-    element-copy-out-f
+    frame-at-requires
     key-of-requires
     mul-keys
-    array-write-keys
+    slice-write-keys
     add-k
     add-i
     loop-less
@@ -92,4 +101,5 @@ track-keys-spec =
     add-i-2
     loop-less-2
     loop-again-2
+    same-length
     returns)

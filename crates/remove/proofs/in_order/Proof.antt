@@ -1,4 +1,4 @@
--- Refused by the one test or the other, or else the span as it was handed.
+-- Refused by the one test or the other, or else the stretch as it was handed.
 use mathlib.Core.Path.{_≡_, sym, _∙_}
 use mathlib.Core.Bool.{true, false}
 use borrow.Author.Needs.{needs}

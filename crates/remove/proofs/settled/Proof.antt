@@ -1,4 +1,4 @@
--- By whether there was a loss; the rest of the state stays.
+-- By whether there was a loss; the rest of the head stays.
 use mathlib.Core.Path.{_≡_}
 use mathlib.Core.Bool.{true, false, cond}
 use borrow.Author.Needs.{needs}
@@ -9,7 +9,10 @@ use Rattle.remove.proofs.settled.Statement.{statement}
 use Rattle.remove.proofs.settled.Tie as tie
 
 returns : tie.Need-returns
-returns c = let off : c .before .before .args .first .set ≡ false = not-true _ (c .if1 .taken) in rw off
+returns c =
+    let t = c .before .before .before in
+    let off : t .before .before .args .first .set ≡ false = not-true _ (t .if1 .taken) in
+    rw off
 
 restart-all-requires : tie.Need-restart-all-requires
 restart-all-requires c κs = search needs
@@ -19,23 +22,22 @@ regroup-requires c κs = search needs
 
 returns-2 : tie.Need-returns-2
 returns-2 c =
-    let k = c .before .before in
+    let k = c .before in
     let n = k .before .before in
     let e = n .before .before in
     let a = e .before .before .args in
-    let s = a .s in
+    let h = a .h in
     let on : a .first .set ≡ true = not-false _ (e .if1 .left) in
-    let g = told (a .first .micros) (search needs) (λ z. cond (isSequence (s .mode)) (startAtEnd (s .group)) (withEnd (s .group) z)) (k .regroup .ensures) in
+    let g = told (a .first .micros) (search needs) (λ z. cond (isSequence (h .mode)) (startAtEnd (h .group)) (withEnd (h .group) z)) (k .regroup .ensures) in
     let t = n .restart-all .ensures in
     rw on (λ j. record {
-      frames = s .frames;
-      nframes = s .nframes;
       tracks = t j;
-      ntracks = s .ntracks;
-      mode = s .mode;
+      ntracks = h .ntracks;
+      nframes = a .left;
+      mode = h .mode;
       group = g j;
-      last = s .last;
-      settings = s .settings;
+      last = h .last;
+      settings = h .settings;
     })
 
 pub settled-spec : {M : Type 1} → statement M

@@ -4,11 +4,11 @@ use mathlib.Core.Bool.{true}
 use borrow.Author.Tests.{not-true, not-false}
 use Rattle.buffer_state.specs.Answers.{abortAnswer}
 use Rattle.buffer_state.specs.Buffer.{Buffer}
-use Rattle.buffer_state.specs.Layout.{wellFormed}
+use Rattle.buffer_state.specs.Lent.{wellFormedAt}
 use Rattle.buffer_state.specs.Refusals.{done}
 use Rattle.buffer_state.specs.Settings.{aborted}
 use Rattle.settings.specs.Windows.{accepted}
-use Rattle.settings.proofs.AnswerLaws.{refusing, going-on, few-tracks-in, aborted-state}
+use Rattle.settings.proofs.AnswerLaws.{refusing, going-on, few-tracks-in, aborted-head}
 use borrow.Author.Needs.{needs}
 use Rattle.settings.proofs.abort.Statement.{statement}
 use Rattle.settings.proofs.abort.Tie as tie
@@ -23,12 +23,12 @@ returns : tie.Need-returns
 unfolding abortAnswer
 returns c =
     let w = c .before .before in
-    c .refuse .ensures ∙ sym (refusing (λ (b : Buffer). done (aborted b)) (w .before .args .s) (sym (w .well-formed .ensures) ∙ not-true _ (c .before .if1 .taken)))
+    c .refuse .ensures ∙ sym (refusing (λ (b : Buffer). done (aborted b)) (w .before .args .h) (w .before .args .times .now) (w .before .args .tags .now) (sym (w .well-formed .ensures) ∙ not-true _ (c .before .if1 .taken)))
 
 restart-all-requires : tie.Need-restart-all-requires
 restart-all-requires c κs =
     let e = c .before in
-    few-tracks-in (e .before .before .args .s) (sym (e .before .well-formed .ensures) ∙ not-false _ (e .if1 .left))
+    few-tracks-in (e .before .before .args .h) (e .before .before .args .times .now) (e .before .before .args .tags .now) (sym (e .before .well-formed .ensures) ∙ not-false _ (e .if1 .left))
 
 group-after-requires : tie.Need-group-after-requires
 group-after-requires c κs = search needs
@@ -42,15 +42,15 @@ done-requires c κs = search needs
 returns-2 : tie.Need-returns-2
 unfolding abortAnswer
 returns-2 c =
-    let o = c .before .before in
+    let o = c .before in
     let g = o .before .before in
     let n = g .before in
     let e = n .before .before in
-    let s = e .before .before .args .s in
-    let h : wellFormed s ≡ true = sym (e .before .well-formed .ensures) ∙ not-false _ (e .if1 .left) in
+    let a = e .before .before .args in
+    let formed : wellFormedAt (a .h) (a .times .now) (a .tags .now) ≡ true = sym (e .before .well-formed .ensures) ∙ not-false _ (e .if1 .left) in
     c .done .ensures
-    ∙ ap accepted (aborted-state s h (n .restart-all .result) (g .group-after .result) (o .open-window .result) (n .restart-all .ensures) (g .group-after .ensures) (o .open-window .ensures))
-    ∙ sym (going-on (λ (b : Buffer). done (aborted b)) s h)
+    ∙ ap accepted (aborted-head (a .h) (a .times .now) (a .tags .now) formed (n .restart-all .result) (g .group-after .result) (o .open-window .result) (n .restart-all .ensures) (g .group-after .ensures) (o .open-window .ensures))
+    ∙ sym (going-on (λ (b : Buffer). done (aborted b)) (a .h) (a .times .now) (a .tags .now) formed)
 
 pub abort-spec : {M : Type 1} → statement M
 abort-spec =

@@ -16,10 +16,10 @@ refuse-requires : tie.Need-refuse-requires
 refuse-requires c κs = search needs
 
 -- whether the end is above the start, as it is told
-higher : (c : tie.After-above) → ltZ (c .before .before .before .args .s .settings .start .micros) (c .before .before .before .args .z) ≡ c .above .result
+higher : (c : tie.After-above) → ltZ (c .before .before .before .args .h .settings .start .micros) (c .before .before .before .args .z) ≡ c .above .result
 higher c =
     let s = c .before .before .before in
-    sym (told (s .args .z) (s .fits .z) (ltZ (s .args .s .settings .start .micros)) (c .above .ensures))
+    sym (told (s .args .z) (s .fits .z) (ltZ (s .args .h .settings .start .micros)) (c .above .ensures))
 
 returns : tie.Need-returns
 returns c = let e = higher (c .before .before) ∙ not-true _ (c .before .if1 .taken) in rw e (c .refuse .ensures)
@@ -37,7 +37,7 @@ returns-2 c =
     let a = s .args in
     let e = higher b ∙ not-false _ (c .before .before .if1 .left) in
     rw e
-    (c .done .ensures ∙ ap accepted (told (a .z) (s .fits .z) (withEnd (a .s) (At (a .x))) (c .before .with-end .ensures)))
+    (c .done .ensures ∙ ap accepted (told (a .z) (s .fits .z) (withEnd (a .h) (At (a .x))) (c .before .with-end .ensures)))
 
 pub end-at-spec : {M : Type 1} → statement M
 end-at-spec =

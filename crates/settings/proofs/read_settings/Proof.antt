@@ -14,7 +14,7 @@ well-formed-requires c κs = search needs
 returns : tie.Need-returns
 returns c =
     let w = c .before in
-    sym (reading-refused (w .before .args .s) (sym (w .well-formed .ensures) ∙ not-true _ (c .if1 .taken)))
+    sym (reading-refused (w .before .args .h) (w .before .args .times .now) (w .before .args .tags .now) (sym (w .well-formed .ensures) ∙ not-true _ (c .if1 .taken)))
 
 enum-told : tie.Need-enum-told
 enum-told c = search needs
@@ -22,21 +22,21 @@ enum-told c = search needs
 enum-known-end : tie.Need-enum-known-end
 enum-known-end c = search needs
 
-well-read : (c : tie.Else1) → settingsAnswer (c .before .before .args .s)
-    ≡ readWith (c .before .before .args .s .settings .offset .seconds) (c .before .before .args .s .settings .start .seconds) (c .before .before .args .s .settings .end)
-well-read c = read-by (c .before .before .args .s) (sym (c .before .well-formed .ensures) ∙ not-false _ (c .if1 .left))
+well-read : (c : tie.Else1) → settingsAnswer (c .before .before .args .h) (c .before .before .args .times .now) (c .before .before .args .tags .now)
+    ≡ readWith (c .before .before .args .h .settings .offset .seconds) (c .before .before .args .h .settings .start .seconds) (c .before .before .args .h .settings .end)
+well-read c = read-by (c .before .before .args .h) (c .before .before .args .times .now) (c .before .before .args .tags .now) (sym (c .before .well-formed .ensures) ∙ not-false _ (c .if1 .left))
 
 returns-2 : tie.Need-returns-2
 returns-2 c =
     let e = c .before .before .before in
-    let t = e .before .before .args .s .settings in
+    let t = e .before .before .args .h .settings in
     let q : Unbounded ≡ t .end = cc in
     ap (readWith (t .offset .seconds) (t .start .seconds)) q ∙ sym (well-read e)
 
 returns-3 : tie.Need-returns-3
 returns-3 c =
     let e = c .before .before .before .before in
-    let t = e .before .before .args .s .settings in
+    let t = e .before .before .args .h .settings in
     let q : At (c .before .end .given .0 .0) ≡ t .end = sym (c .before .end .given .1) in
     ap (readWith (t .offset .seconds) (t .start .seconds)) q ∙ sym (well-read e)
 

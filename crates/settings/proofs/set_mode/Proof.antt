@@ -4,7 +4,7 @@ use mathlib.Core.Bool.{true}
 use borrow.Author.Tests.{not-true, not-false}
 use Rattle.buffer_state.specs.Answers.{modeAnswer}
 use Rattle.buffer_state.specs.Buffer.{Buffer}
-use Rattle.buffer_state.specs.Layout.{wellFormed}
+use Rattle.buffer_state.specs.Lent.{wellFormedAt}
 use Rattle.buffer_state.specs.Refusals.{done}
 use Rattle.buffer_state.specs.Settings.{modeSet}
 use Rattle.settings.specs.Windows.{accepted}
@@ -23,7 +23,7 @@ returns : tie.Need-returns
 unfolding modeAnswer
 returns c =
     let w = c .before .before in
-    c .refuse .ensures ∙ sym (refusing (λ (b : Buffer). done (modeSet (w .before .args .m) b)) (w .before .args .s) (sym (w .well-formed .ensures) ∙ not-true _ (c .before .if1 .taken)))
+    c .refuse .ensures ∙ sym (refusing (λ (b : Buffer). done (modeSet (w .before .args .m) b)) (w .before .args .h) (w .before .args .times .now) (w .before .args .tags .now) (sym (w .well-formed .ensures) ∙ not-true _ (c .before .if1 .taken)))
 
 group-after-requires : tie.Need-group-after-requires
 group-after-requires c κs = search needs
@@ -34,11 +34,11 @@ done-requires c κs = search needs
 returns-2 : tie.Need-returns-2
 unfolding modeAnswer
 returns-2 c =
-    let g = c .before .before .before .before in
+    let g = c .before .before .before in
     let e = g .before in
     let a = e .before .before .args in
-    let h : wellFormed (a .s) ≡ true = sym (e .before .well-formed .ensures) ∙ not-false _ (e .if1 .left) in
-    c .done .ensures ∙ ap accepted (mode-set (a .s) h (a .m) (g .group-after .result) (g .group-after .ensures)) ∙ sym (going-on (λ (b : Buffer). done (modeSet (a .m) b)) (a .s) h)
+    let formed : wellFormedAt (a .h) (a .times .now) (a .tags .now) ≡ true = sym (e .before .well-formed .ensures) ∙ not-false _ (e .if1 .left) in
+    c .done .ensures ∙ ap accepted (mode-set (a .h) (a .times .now) (a .tags .now) formed (a .m) (g .group-after .result) (g .group-after .ensures)) ∙ sym (going-on (λ (b : Buffer). done (modeSet (a .m) b)) (a .h) (a .times .now) (a .tags .now) formed)
 
 pub set-mode-spec : {M : Type 1} → statement M
 set-mode-spec =

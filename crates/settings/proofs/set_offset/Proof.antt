@@ -5,7 +5,7 @@ use borrow.Author.Tests.{not-true, not-false}
 use Rattle.laws.proofs.WordLaws.{told}
 use Rattle.seconds.specs.declared.Micros.the-variants.{At, Refused}
 use Rattle.buffer_state.specs.Answers.{offsetAnswer}
-use Rattle.buffer_state.specs.Layout.{wellFormed}
+use Rattle.buffer_state.specs.Lent.{wellFormedAt}
 use Rattle.buffer_state.specs.Settings.{offsetSet}
 use Rattle.settings.specs.Windows.{accepted, withOffset, offsetBy}
 use Rattle.settings.proofs.AnswerLaws.{refusing, going-on, offset-by}
@@ -23,7 +23,7 @@ returns : tie.Need-returns
 unfolding offsetAnswer
 returns c =
     let w = c .before .before in
-    c .refuse .ensures ∙ sym (refusing (offsetSet (w .before .args .x)) (w .before .args .s) (sym (w .well-formed .ensures) ∙ not-true _ (c .before .if1 .taken)))
+    c .refuse .ensures ∙ sym (refusing (offsetSet (w .before .args .x)) (w .before .args .h) (w .before .args .times .now) (w .before .args .tags .now) (sym (w .well-formed .ensures) ∙ not-true _ (c .before .if1 .taken)))
 
 micros-of-requires : tie.Need-micros-of-requires
 micros-of-requires c κs = search needs
@@ -44,19 +44,19 @@ done-requires : tie.Need-done-requires
 done-requires c κs = search needs
 
 -- what the conversion answered decides
-answered : (c : tie.After-micros-of) → offsetBy (c .before .before .before .args .s) (c .before .before .before .args .x) (c .micros-of .result) ≡ offsetAnswer (c .before .before .before .args .x) (c .before .before .before .args .s)
+answered : (c : tie.After-micros-of) → offsetBy (c .before .before .before .args .h) (c .before .before .before .args .x) (c .micros-of .result) ≡ offsetAnswer (c .before .before .before .args .x) (c .before .before .before .args .h) (c .before .before .before .args .times .now) (c .before .before .before .args .tags .now)
 unfolding offsetAnswer
 answered c =
     let a = c .before .before .before .args in
-    let h : wellFormed (a .s) ≡ true = sym (c .before .before .well-formed .ensures) ∙ not-false _ (c .before .if1 .left) in
-    ap (offsetBy (a .s) (a .x)) (c .micros-of .ensures) ∙ sym (going-on (offsetSet (a .x)) (a .s) h ∙ offset-by (a .s) h (a .x))
+    let formed : wellFormedAt (a .h) (a .times .now) (a .tags .now) ≡ true = sym (c .before .before .well-formed .ensures) ∙ not-false _ (c .before .if1 .left) in
+    ap (offsetBy (a .h) (a .x)) (c .micros-of .ensures) ∙ sym (going-on (offsetSet (a .x)) (a .h) (a .times .now) (a .tags .now) formed ∙ offset-by (a .h) (a .times .now) (a .tags .now) formed (a .x))
 
 returns-2 : tie.Need-returns-2
 returns-2 c =
     let m = c .before .before .before in
     let a = m .before .before .before .args in
     let e : Refused ≡ m .micros-of .result = cc in
-    c .refuse2 .ensures ∙ ap (offsetBy (a .s) (a .x)) e ∙ answered m
+    c .refuse2 .ensures ∙ ap (offsetBy (a .h) (a .x)) e ∙ answered m
 
 returns-3 : tie.Need-returns-3
 returns-3 c =
@@ -65,8 +65,8 @@ returns-3 c =
     let a = m .before .before .before .args in
     let z = k .before .m .given .0 .0 in
     let e : At z ≡ m .micros-of .result = sym (k .before .m .given .1) in
-    let o : c .before .with-offset .result ≡ withOffset (a .s) (a .x) z = told z (record { sfits = k .known-told .given .0 .1 }) (withOffset (a .s) (a .x)) (c .before .with-offset .ensures) in
-    c .done .ensures ∙ ap accepted o ∙ ap (offsetBy (a .s) (a .x)) e ∙ answered m
+    let o : c .before .with-offset .result ≡ withOffset (a .h) (a .x) z = told z (record { sfits = k .known-told .given .0 .1 }) (withOffset (a .h) (a .x)) (c .before .with-offset .ensures) in
+    c .done .ensures ∙ ap accepted o ∙ ap (offsetBy (a .h) (a .x)) e ∙ answered m
 
 pub set-offset-spec : {M : Type 1} → statement M
 set-offset-spec =

@@ -5,7 +5,7 @@ use borrow.Author.Tests.{not-true, not-false}
 use Rattle.laws.proofs.WordLaws.{told}
 use Rattle.seconds.specs.declared.EndMicros.the-variants.{Unbounded, At, Refused}
 use Rattle.buffer_state.specs.Answers.{windowEndAnswer}
-use Rattle.buffer_state.specs.Layout.{wellFormed}
+use Rattle.buffer_state.specs.Lent.{wellFormedAt}
 use Rattle.buffer_state.specs.Settings.{windowEndSet}
 use Rattle.settings.specs.Windows.{accepted, endAfter, endBy}
 use Rattle.settings.proofs.AnswerLaws.{refusing, going-on, end-by}
@@ -23,7 +23,7 @@ returns : tie.Need-returns
 unfolding windowEndAnswer
 returns c =
     let w = c .before .before in
-    c .refuse .ensures ∙ sym (refusing (windowEndSet (w .before .args .x)) (w .before .args .s) (sym (w .well-formed .ensures) ∙ not-true _ (c .before .if1 .taken)))
+    c .refuse .ensures ∙ sym (refusing (windowEndSet (w .before .args .x)) (w .before .args .h) (w .before .args .times .now) (w .before .args .tags .now) (sym (w .well-formed .ensures) ∙ not-true _ (c .before .if1 .taken)))
 
 end-micros-requires : tie.Need-end-micros-requires
 end-micros-requires c κs = search needs
@@ -50,26 +50,26 @@ end-at-requires : tie.Need-end-at-requires
 end-at-requires c κs = search needs
 
 -- what the conversion answered decides
-answered : (c : tie.After-end-micros) → endBy (c .before .before .before .args .s) (c .before .before .before .args .x) (c .end-micros .result) ≡ windowEndAnswer (c .before .before .before .args .x) (c .before .before .before .args .s)
+answered : (c : tie.After-end-micros) → endBy (c .before .before .before .args .h) (c .before .before .before .args .x) (c .end-micros .result) ≡ windowEndAnswer (c .before .before .before .args .x) (c .before .before .before .args .h) (c .before .before .before .args .times .now) (c .before .before .before .args .tags .now)
 unfolding windowEndAnswer
 answered c =
     let a = c .before .before .before .args in
-    let h : wellFormed (a .s) ≡ true = sym (c .before .before .well-formed .ensures) ∙ not-false _ (c .before .if1 .left) in
-    ap (endBy (a .s) (a .x)) (c .end-micros .ensures) ∙ sym (going-on (windowEndSet (a .x)) (a .s) h ∙ end-by (a .s) h (a .x))
+    let formed : wellFormedAt (a .h) (a .times .now) (a .tags .now) ≡ true = sym (c .before .before .well-formed .ensures) ∙ not-false _ (c .before .if1 .left) in
+    ap (endBy (a .h) (a .x)) (c .end-micros .ensures) ∙ sym (going-on (windowEndSet (a .x)) (a .h) (a .times .now) (a .tags .now) formed ∙ end-by (a .h) (a .times .now) (a .tags .now) formed (a .x))
 
 returns-2 : tie.Need-returns-2
 returns-2 c =
     let m = c .before .before .before in
     let a = m .before .before .before .args in
     let e : Refused ≡ m .end-micros .result = cc in
-    c .refuse2 .ensures ∙ ap (endBy (a .s) (a .x)) e ∙ answered m
+    c .refuse2 .ensures ∙ ap (endBy (a .h) (a .x)) e ∙ answered m
 
 returns-3 : tie.Need-returns-3
 returns-3 c =
     let m = c .before .before .before .before in
     let a = m .before .before .before .args in
     let e : Unbounded ≡ m .end-micros .result = cc in
-    c .done .ensures ∙ ap accepted (c .before .with-end .ensures) ∙ ap (endBy (a .s) (a .x)) e ∙ answered m
+    c .done .ensures ∙ ap accepted (c .before .with-end .ensures) ∙ ap (endBy (a .h) (a .x)) e ∙ answered m
 
 returns-4 : tie.Need-returns-4
 returns-4 c =
@@ -78,7 +78,7 @@ returns-4 c =
     let a = m .before .before .before .args in
     let z = k .before .m .given .0 .0 in
     let e : At z ≡ m .end-micros .result = sym (k .before .m .given .1) in
-    told z (record { sfits = k .known-told .given .0 .1 }) (endAfter (a .s) (a .x)) (c .end-at .ensures) ∙ ap (endBy (a .s) (a .x)) e ∙ answered m
+    told z (record { sfits = k .known-told .given .0 .1 }) (endAfter (a .h) (a .x)) (c .end-at .ensures) ∙ ap (endBy (a .h) (a .x)) e ∙ answered m
 
 pub set-window-end-spec : {M : Type 1} → statement M
 set-window-end-spec =

@@ -5,7 +5,7 @@ use borrow.Author.Tests.{not-true, not-false}
 use Rattle.laws.proofs.WordLaws.{told}
 use Rattle.seconds.specs.declared.Micros.the-variants.{At, Refused}
 use Rattle.buffer_state.specs.Answers.{windowStartAnswer}
-use Rattle.buffer_state.specs.Layout.{wellFormed}
+use Rattle.buffer_state.specs.Lent.{wellFormedAt}
 use Rattle.buffer_state.specs.Settings.{windowStartSet}
 use Rattle.settings.specs.Windows.{startAt, startBy}
 use Rattle.settings.proofs.AnswerLaws.{refusing, going-on, start-by}
@@ -23,7 +23,7 @@ returns : tie.Need-returns
 unfolding windowStartAnswer
 returns c =
     let w = c .before .before in
-    c .refuse .ensures ∙ sym (refusing (windowStartSet (w .before .args .x)) (w .before .args .s) (sym (w .well-formed .ensures) ∙ not-true _ (c .before .if1 .taken)))
+    c .refuse .ensures ∙ sym (refusing (windowStartSet (w .before .args .x)) (w .before .args .h) (w .before .args .times .now) (w .before .args .tags .now) (sym (w .well-formed .ensures) ∙ not-true _ (c .before .if1 .taken)))
 
 micros-of-requires : tie.Need-micros-of-requires
 micros-of-requires c κs = search needs
@@ -41,19 +41,19 @@ start-at-requires : tie.Need-start-at-requires
 start-at-requires c κs = search needs
 
 -- what the conversion answered decides
-answered : (c : tie.After-micros-of) → startBy (c .before .before .before .args .s) (c .before .before .before .args .x) (c .micros-of .result) ≡ windowStartAnswer (c .before .before .before .args .x) (c .before .before .before .args .s)
+answered : (c : tie.After-micros-of) → startBy (c .before .before .before .args .h) (c .before .before .before .args .x) (c .micros-of .result) ≡ windowStartAnswer (c .before .before .before .args .x) (c .before .before .before .args .h) (c .before .before .before .args .times .now) (c .before .before .before .args .tags .now)
 unfolding windowStartAnswer
 answered c =
     let a = c .before .before .before .args in
-    let h : wellFormed (a .s) ≡ true = sym (c .before .before .well-formed .ensures) ∙ not-false _ (c .before .if1 .left) in
-    ap (startBy (a .s) (a .x)) (c .micros-of .ensures) ∙ sym (going-on (windowStartSet (a .x)) (a .s) h ∙ start-by (a .s) h (a .x))
+    let formed : wellFormedAt (a .h) (a .times .now) (a .tags .now) ≡ true = sym (c .before .before .well-formed .ensures) ∙ not-false _ (c .before .if1 .left) in
+    ap (startBy (a .h) (a .x)) (c .micros-of .ensures) ∙ sym (going-on (windowStartSet (a .x)) (a .h) (a .times .now) (a .tags .now) formed ∙ start-by (a .h) (a .times .now) (a .tags .now) formed (a .x))
 
 returns-2 : tie.Need-returns-2
 returns-2 c =
     let m = c .before .before .before in
     let a = m .before .before .before .args in
     let e : Refused ≡ m .micros-of .result = cc in
-    c .refuse2 .ensures ∙ ap (startBy (a .s) (a .x)) e ∙ answered m
+    c .refuse2 .ensures ∙ ap (startBy (a .h) (a .x)) e ∙ answered m
 
 returns-3 : tie.Need-returns-3
 returns-3 c =
@@ -62,7 +62,7 @@ returns-3 c =
     let a = m .before .before .before .args in
     let z = k .before .m .given .0 .0 in
     let e : At z ≡ m .micros-of .result = sym (k .before .m .given .1) in
-    told z (record { sfits = k .known-told .given .0 .1 }) (startAt (a .s) (a .x)) (c .start-at .ensures) ∙ ap (startBy (a .s) (a .x)) e ∙ answered m
+    told z (record { sfits = k .known-told .given .0 .1 }) (startAt (a .h) (a .x)) (c .start-at .ensures) ∙ ap (startBy (a .h) (a .x)) e ∙ answered m
 
 pub set-window-start-spec : {M : Type 1} → statement M
 set-window-start-spec =

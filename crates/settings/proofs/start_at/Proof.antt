@@ -27,14 +27,14 @@ not-early c =
     let s = c .before .before .before .before in
     sym (told (s .args .z) (s .fits .z) (λ y. ltZ y (pos 0)) (c .before .below .ensures)) ∙ c .if1 .left
 
-limit-fits : (c : tie.After-before-end) → SFits w64 (c .before .before .before .before .before .args .s .settings .limit)
+limit-fits : (c : tie.After-before-end) → SFits w64 (c .before .before .before .before .before .args .h .settings .limit)
 limit-fits c = search needs
 
 -- whether it comes before the end, as it is told
-late : (c : tie.After-before-end) → beforeBound (c .before .before .before .before .before .args .z) (windowEnd (c .before .before .before .before .before .args .s .settings)) ≡ c .before-end .result
+late : (c : tie.After-before-end) → beforeBound (c .before .before .before .before .before .args .z) (windowEnd (c .before .before .before .before .before .args .h .settings)) ≡ c .before-end .result
 late c =
     let s = c .before .before .before .before .before in
-    let t = s .args .s .settings in
+    let t = s .args .h .settings in
     sym (told₂ (s .args .z) (t .limit) (s .fits .z) (limit-fits c) (λ y l. beforeBound y (boundAt (t .end) l)) (c .before-end .ensures))
 
 returns : tie.Need-returns
@@ -64,14 +64,14 @@ given-requires c κs = search needs
 
 returns-3 : tie.Need-returns-3
 returns-3 c =
-    let k = c .before .before .before .before .before .before in
+    let k = c .before .before .before .before .before in
     let o = k .before in
     let n = o .before in
     let s = n .before .before .before .before .before in
     let e = late n ∙ not-false _ (o .if2 .left) in
     let w : k .given .result ≡ setting (s .args .x) (s .args .z) = told (s .args .z) (s .fits .z) (setting (s .args .x)) (k .given .ensures) in
     rw (not-early (n .before), e)
-    (rw (w, toZ-ofZ w64 (s .args .s .settings .limit) (limit-fits n)) at (c .done .ensures))
+    (rw (w, toZ-ofZ w64 (s .args .h .settings .limit) (limit-fits n)) at (c .done .ensures))
 
 pub start-at-spec : {M : Type 1} → statement M
 start-at-spec =

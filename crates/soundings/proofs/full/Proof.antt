@@ -5,10 +5,10 @@ use Rattle.soundings.proofs.full.Statement.{statement}
 use Rattle.soundings.proofs.full.Tie as tie
 
 abbrev Inv-loop : tie.InvT-loop
-Inv-loop s₀ i₀ s i = i ≤ 1024
+Inv-loop times₀ tags₀ h₀ i₀ times tags h i = i ≤ 1024
 
 abbrev μ-loop : tie.MeasureT-loop
-μ-loop s₀ i₀ s i = 1024 - i
+μ-loop times₀ tags₀ h₀ i₀ times tags h i = 1024 - i
 
 fresh-requires : tie.Need-fresh-requires Inv-loop μ-loop
 fresh-requires c κs = search needs

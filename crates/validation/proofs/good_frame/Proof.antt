@@ -1,44 +1,92 @@
--- Each test as it is told, then one law on their order.
-use mathlib.Core.Path.{_≡_}
-use borrow.Author.Needs.{needs}
+use mathlib.Core.Path.{_≡_, sym, _∙_}
+use mathlib.Core.Bool.{true, false, _&&_}
 use lib.Dec.{leb}
-use lib.IntN.{pos}
-use lib.Signed.{leZ}
+use borrow.Author.Tests.{not-true, not-false}
+use borrow.Author.Needs.{needs}
 use Rattle.laws.proofs.WordLaws.{told}
-use Rattle.buffer_state.specs.Buffer.{endOf}
 use Rattle.buffer_state.specs.Limits.{resultTime, goodDuration}
-use Rattle.buffer_state.specs.WellFormed.{goodFrame}
-use Rattle.validation.proofs.LimitLaws.{frame-tests}
+use Rattle.validation.proofs.ExamineLaws.{frame-in-order}
 use Rattle.validation.proofs.good_frame.Statement.{statement}
 use Rattle.validation.proofs.good_frame.Tie as tie
 
-cast-numbers : tie.Need-cast-numbers
-cast-numbers c = search needs
+-- what each test said
+on-track : (c : tie.Else1) → let a = c .before .before .before .args in (leb 1 (a .f .track) && leb (a .f .track) (a .tracks)) ≡ true
+on-track c = not-false _ (c .if1 .left)
 
-at-most-requires : tie.Need-at-most-requires
-at-most-requires c κs = search needs
+numbered : (c : tie.Else2) → let a = c .before .before .before .before .before .before .args in (leb 1 (a .f .number) && leb (a .f .number) (a .last)) ≡ true
+numbered c = not-false _ (c .if2 .left)
 
-good-span-requires : tie.Need-good-span-requires
-good-span-requires c κs = search needs
+lasting : (c : tie.After-good-duration) → let a = c .before .before .before .before .before .before .before .args in c .good-duration .result ≡ goodDuration (a .f .duration)
+lasting c = c .good-duration .ensures
 
-result-time-requires : tie.Need-result-time-requires
-result-time-requires c κs = search needs
+decoded : (c : tie.After-result-time) → let a = c .before .before .before .before .before .before .before .before .before .before .args in c .result-time .result ≡ resultTime (a .f .dts)
+decoded c = told (c .before .before .before .before .before .before .before .before .before .before .args .f .dts) (search needs) resultTime (c .result-time .ensures)
+
+returns : tie.Need-returns
+returns c =
+    let a = c .before .before .before .args in
+    let e : (leb 1 (a .f .track) && leb (a .f .track) (a .tracks)) ≡ false = not-true _ (c .if1 .taken) in
+    sym (frame-in-order (a .tracks) (a .last) (a .f) ∙ rw e)
+
+returns-2 : tie.Need-returns-2
+returns-2 c =
+    let x₁ = c .before .before .before in
+    let a = x₁ .before .before .before .args in
+    let e : (leb 1 (a .f .number) && leb (a .f .number) (a .last)) ≡ false = not-true _ (c .if2 .taken) in
+    sym (frame-in-order (a .tracks) (a .last) (a .f) ∙ rw (on-track x₁, e))
 
 good-duration-requires : tie.Need-good-duration-requires
 good-duration-requires c κs = search needs
 
-returns : tie.Need-returns
-unfolding goodFrame
-returns c =
-    let made = c .before .before .before .before in
-    let a = made .before .before .before .before .before .before .args in
-    let f = a .f in
-    let e : made .at-most .result ≡ leZ (pos 0) (f .pts) = told (f .pts) (search needs) (leZ (pos 0)) (made .at-most .ensures) in
-    let d : c .before .result-time .result ≡ resultTime (f .dts) = told (f .dts) (search needs) resultTime (c .before .result-time .ensures) in
-    rw (e, d, c .before .before .before .good-span .ensures, c .good-duration .ensures)
-    (frame-tests (leb 1 (f .track)) (leb (f .track) (a .tracks)) (leb 1 (f .number)) (leb (f .number) (a .last)) (leZ (pos 0) (f .pts)) (resultTime (f .pts))
-    (resultTime (f .dts)) (resultTime (endOf f)) (goodDuration (f .duration)))
+returns-3 : tie.Need-returns-3
+returns-3 c =
+    let y = c .before in
+    let x₂ = y .before in
+    let x₁ = x₂ .before .before .before in
+    let a = x₁ .before .before .before .args in
+    let e : goodDuration (a .f .duration) ≡ false = sym (lasting y) ∙ not-true _ (c .if3 .taken) in
+    sym (frame-in-order (a .tracks) (a .last) (a .f) ∙ rw (on-track x₁, numbered x₂, e))
+
+result-time-requires : tie.Need-result-time-requires
+result-time-requires c κs = search needs
+
+returns-4 : tie.Need-returns-4
+returns-4 c =
+    let z = c .before in
+    let x₃ = z .before .before in
+    let y = x₃ .before in
+    let x₂ = y .before in
+    let x₁ = x₂ .before .before .before in
+    let a = x₁ .before .before .before .args in
+    let d : goodDuration (a .f .duration) ≡ true = sym (lasting y) ∙ not-false _ (x₃ .if3 .left) in
+    let e : resultTime (a .f .dts) ≡ false = sym (decoded z) ∙ not-true _ (c .if4 .taken) in
+    sym (frame-in-order (a .tracks) (a .last) (a .f) ∙ rw (on-track x₁, numbered x₂, d, e))
+
+good-span-requires : tie.Need-good-span-requires
+good-span-requires c κs = search needs
+
+returns-5 : tie.Need-returns-5
+returns-5 c =
+    let x₄ = c .before in
+    let z = x₄ .before in
+    let x₃ = z .before .before in
+    let y = x₃ .before in
+    let x₂ = y .before in
+    let x₁ = x₂ .before .before .before in
+    let a = x₁ .before .before .before .args in
+    let d : goodDuration (a .f .duration) ≡ true = sym (lasting y) ∙ not-false _ (x₃ .if3 .left) in
+    let t : resultTime (a .f .dts) ≡ true = sym (decoded z) ∙ not-false _ (x₄ .if4 .left) in
+    c .good-span .ensures ∙ sym (frame-in-order (a .tracks) (a .last) (a .f) ∙ rw (on-track x₁, numbered x₂, d, t))
 
 pub good-frame-spec : {M : Type 1} → statement M
 good-frame-spec =
-    tie.close (tie.spec cast-numbers at-most-requires good-span-requires result-time-requires good-duration-requires returns)
+    tie.close
+    (tie.spec
+    returns
+    returns-2
+    good-duration-requires
+    returns-3
+    result-time-requires
+    returns-4
+    good-span-requires
+    returns-5)

@@ -1,39 +1,39 @@
--- The end is asked only where the presentation time is inside the limits.
-use mathlib.Core.Path.{_≡_, sym, _∙_}
-use mathlib.Core.Bool.{true, false}
+use mathlib.Core.Path.{_≡_}
+use Prim.Native.Nat.{_-_, _≤_, _<_, _^_}
+use native.Mathlib.Omega.{arith}
+use lib.IntN.{pos}
+use lib.Signed.{leZ}
+use mir.Syntax.{w64}
+use mir.Val.{SFits}
 use borrow.Author.Needs.{needs}
-use borrow.Author.Tests.{not-true, not-false}
-use Rattle.laws.proofs.WordLaws.{told}
-use Rattle.buffer_state.specs.Limits.{resultTime}
-use Rattle.validation.proofs.LimitLaws.{end-fits}
+use Rattle.laws.proofs.WordLaws.{told, told₂}
+use Rattle.validation.proofs.ExamineLaws.{span-tests}
 use Rattle.validation.proofs.good_span.Statement.{statement}
 use Rattle.validation.proofs.good_span.Tie as tie
 
-result-time-requires : tie.Need-result-time-requires
-result-time-requires c κs = search needs
+at-most-requires : tie.Need-at-most-requires
+at-most-requires c κs = search needs
+
+latest-start-requires : tie.Need-latest-start-requires
+latest-start-requires c κs = search needs
+
+at-most-requires-2 : tie.Need-at-most-requires-2
+at-most-requires-2 c κs = search needs
 
 returns : tie.Need-returns
 returns c =
-    let p = c .before .before .before .args .f .pts in
-    let e : resultTime p ≡ false = sym (told p (search needs) resultTime (c .before .result-time .ensures)) ∙ not-true _ (c .if1 .taken) in
-    rw e
-
-end-of-requires : tie.Need-end-of-requires
-end-of-requires c κs =
-    let p = c .before .before .before .args .f .pts in
-    sym (told p (search needs) resultTime (c .before .result-time .ensures)) ∙ not-false _ (c .if1 .left)
-
-result-time-requires-2 : tie.Need-result-time-requires-2
-result-time-requires-2 c κs = search needs
-
-returns-2 : tie.Need-returns-2
-returns-2 c =
-    let b = c .before .before .before in
-    let f = b .before .before .args .f in
-    let e : resultTime (f .pts) ≡ true = sym (told (f .pts) (search needs) resultTime (b .result-time .ensures)) ∙ not-false _ (c .before .before .if1 .left) in
-    let g : c .result-time2 .result ≡ resultTime (c .before .end-of .result) =
-    told (c .before .end-of .result) (rw (c .before .end-of .ensures) (end-fits (f .pts) (f .duration) e (search needs))) resultTime (c .result-time2 .ensures) in
-    rw (e, g, c .before .end-of .ensures)
+    let l = c .before .before in
+    let m = l .before in
+    let f = m .before .before .args .f in
+    let h : f .duration < 2 ^ 32 = search needs in
+    let k : f .duration ≤ 4000000000000 = omega arith in
+    let z = pos (4000000000000 - f .duration) in
+    let w : SFits w64 z = record { sfits = omega arith } in
+    let v : SFits w64 (l .latest-start .result) = rw (l .latest-start .ensures) w in
+    let a : m .at-most .result ≡ leZ (pos 0) (f .pts) = told (f .pts) (search needs) (leZ (pos 0)) (m .at-most .ensures) in
+    let b : c .at-most2 .result ≡ leZ (f .pts) (l .latest-start .result) = told₂ (f .pts) (l .latest-start .result) (search needs) v leZ (c .at-most2 .ensures) in
+    rw (a, b, l .latest-start .ensures) (span-tests (f .pts) (f .duration) k)
 
 pub good-span-spec : {M : Type 1} → statement M
-good-span-spec = tie.close (tie.spec result-time-requires returns end-of-requires result-time-requires-2 returns-2)
+good-span-spec =
+    tie.close (tie.spec at-most-requires latest-start-requires at-most-requires-2 returns)

@@ -9,19 +9,19 @@ use Rattle.laws.proofs.ListLaws.{mapped-length}
 use Rattle.buffer_state.specs.WellFormed.{goodTrack}
 use Rattle.buffer_state.specs.Buffer.{zeroTrack}
 use Rattle.buffer_state.specs.Layout.{isZeroTrack}
-use Rattle.validation.specs.Places.{placed}
+use Rattle.validation.specs.Tests.{placed}
 use Rattle.validation.proofs.PlaceLaws.{placed-step, placed-stop, placed-end}
 use Rattle.validation.proofs.tracks_placed.Statement.{statement}
 use Rattle.validation.proofs.tracks_placed.Tie as tie
 
 abbrev Inv-loop : tie.InvT-loop
-Inv-loop s n i₀ i = (i ≤ 4) × (placed goodTrack isZeroTrack (n - i) (drop i (s .tracks)) ≡ placed goodTrack isZeroTrack n (s .tracks))
+Inv-loop h n i₀ i = (i ≤ 4) × (placed goodTrack isZeroTrack (n - i) (drop i (h .tracks)) ≡ placed goodTrack isZeroTrack n (h .tracks))
 
 abbrev μ-loop : tie.MeasureT-loop
 μ-loop s n i₀ i = 4 - i
 
 full : (c : tie.At-loop Inv-loop μ-loop) → length (c .before .args .t1 .tracks) ≡ 4
-full c = mapped-length _ (c .before .args .t1 .tracks) 4 (c .before .good .0 .1 .1 .1 .1 .0 .1 .0 .1)
+full c = mapped-length _ (c .before .args .t1 .tracks) 4 (c .before .good .0 .1 .1 .0 .1 .0 .1)
 
 loop-holds : tie.Need-loop-holds Inv-loop μ-loop
 loop-holds c = let n = c .args .t1 .ntracks in let e : n - 0 ≡ n = omega arith in (search needs, rw e)

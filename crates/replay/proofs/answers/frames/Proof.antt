@@ -5,19 +5,16 @@ use Rattle.replay.proofs.answers.frames.Statement.{statement}
 use Rattle.replay.proofs.answers.frames.Tie as tie
 
 abbrev Inv-loop : tie.InvT-loop
-Inv-loop n frames i₀ i = i ≤ n
+Inv-loop times tags n i₀ i = i ≤ n
 
 abbrev μ-loop : tie.MeasureT-loop
-μ-loop n frames i₀ i = n - i
+μ-loop times tags n i₀ i = n - i
 
 loop-holds : tie.Need-loop-holds Inv-loop μ-loop
 loop-holds c = search needs
 
-mul-frame : tie.Need-mul-frame Inv-loop μ-loop
-mul-frame c = search needs
-
-array-copy-out-frame : tie.Need-array-copy-out-frame Inv-loop μ-loop
-array-copy-out-frame c = search needs
+frame-at-requires : tie.Need-frame-at-requires Inv-loop μ-loop
+frame-at-requires c κs = search needs
 
 frame-requires : tie.Need-frame-requires Inv-loop μ-loop
 frame-requires c κs = search needs
@@ -41,8 +38,7 @@ frames-spec =
     Inv-loop
     μ-loop
     loop-holds
-    mul-frame
-    array-copy-out-frame
+    frame-at-requires
     frame-requires
     add-i
     loop-less

@@ -1,0 +1,3 @@
+pub mod NumberLaws
+pub mod OnceLaws
+pub mod TableLaws

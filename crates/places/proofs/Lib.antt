@@ -1,0 +1,4 @@
+pub mod ListLaws
+pub mod PlaceLaws
+pub mod OpenLaws
+pub mod InsertLaws

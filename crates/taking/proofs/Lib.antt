@@ -1,0 +1,7 @@
+pub mod WalkLaws
+pub mod ArmLaws
+pub mod TurnLaws
+pub mod LoopLaws
+pub mod EndLaws
+pub mod FromLaws
+pub mod GoneLaws

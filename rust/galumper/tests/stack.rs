@@ -1,0 +1,58 @@
+//! Every call fits on a small stack, also where the buffer gives it all the work there is.
+
+use std::thread;
+
+use galumper::{Buffer, Offered, PLACES};
+
+/// What a thread needs for any call, with the few kilobytes of its own.
+const STACK: usize = 64 * 1024;
+
+/// The n-th frame, from 0, of a buffer whose four tracks take turns.
+fn frame(n: usize) -> Offered {
+    let time = (n / 4) as i64 * 40_000;
+    Offered {
+        track: n as u32 % 4 + 1,
+        flagged: 1,
+        duration: 30_000,
+        pts: time,
+        dts: time,
+    }
+}
+
+/// A full buffer of four tracks. Numbers and presentation times are in no order, so that both are
+/// sorted; no two frames of a track touch, so that each is a range.
+fn full() -> Box<Buffer> {
+    let mut fates = [[0; 2]; PLACES];
+    let mut buffer = galumper::create(&[0, 1, 0, 1]).expect("four tracks");
+    for n in 0..PLACES {
+        assert_eq!(buffer.append(frame(n), &mut fates), Ok(0));
+    }
+    buffer.head.last = u32::MAX - 1;
+    for place in 0..PLACES {
+        buffer.times[place][0] = (place * 101 % 256) as i64 * 40_000;
+        buffer.tags[place][3] = (place * 613 % PLACES) as u32 * 4096 + 1;
+    }
+    buffer
+}
+
+#[test]
+fn every_call_on_a_small_stack() {
+    let mut buffer = full();
+    let calls = move || {
+        let (mut fates, mut list) = (vec![[0; 2]; PLACES], vec![[0; 2]; PLACES]);
+        assert_eq!(buffer.track_ranges(1, &mut list), Ok(256));
+        assert_eq!(buffer.common_ranges(&mut list), Ok(256));
+        assert_eq!(buffer.set_mode(0), Ok(()));
+        assert_eq!(buffer.set_offset(0.0), Ok(()));
+        assert_eq!(buffer.set_window_start(0.0), Ok(()));
+        assert_eq!(buffer.set_window_end(60.0), Ok(()));
+        assert!(buffer.read_settings().is_ok());
+        assert_eq!(buffer.abort(), Ok(()));
+        assert_eq!(buffer.append(frame(500), &mut fates), Ok(1));
+        assert_eq!(buffer.remove(0.0, 1.0, &mut fates), Ok(100));
+        assert!(galumper::create(&[0, 1]).is_ok());
+    };
+    let thread = thread::Builder::new().stack_size(STACK).spawn(calls);
+    let joined = thread.expect("a thread").join();
+    joined.expect("calls that are done");
+}
