@@ -104,7 +104,15 @@ fn put_in(
     ensures lines { λ r. ⌜ now (fates .exit) ≡ linesThen (overlapAt spans n (now (times .entry)) (now (tags .entry))) (now (fates .entry)) ⌝ }
     ensures counts { λ r. ⌜ (r .left ≡ length (kept (overlapAt spans n (now (times .entry)) (now (tags .entry))))) × (r .lines ≡ length (linesOf (overlapAt spans n (now (times .entry)) (now (tags .entry))))) ⌝ }
 {
-    let out = taking::take_out(times, tags, n, first, spans, 4, fates);
+    let none = Track {
+        kind: 0,
+        known: false,
+        need: false,
+        duration: 0,
+        dts: 0,
+        end: 0,
+    };
+    let out = taking::take_out(times, tags, n, first, spans, [none; 5], 4, fates);
     let left = out.left;
     places::insert(times, tags, left, f);
     out

@@ -28,10 +28,11 @@ use Rattle.taking.specs.Taking.{inSpans, takenMarks}
 use Rattle.taking.proofs.WalkLaws.{stepped}
 use Rattle.taking.proofs.ArmLaws.{still, causeOf, stepped-still, stepped-walk}
 use Rattle.taking.proofs.GoneLaws.{none-gone}
-use Rattle.remove.specs.declared.Instant.{Instant}
+use Rattle.taking.specs.declared.Instant.{Instant}
 use Rattle.remove.specs.declared.Stretch.{Stretch}
 use Rattle.remove.specs.declared.Stretch.the-variants.{Over, Refused}
-use Rattle.remove.specs.Edges.{boundIn, instantOf, inOrder, stretchOf, FarSpans}
+use Rattle.taking.specs.Loss.{boundIn}
+use Rattle.remove.specs.Edges.{instantOf, inOrder, stretchOf, FarSpans}
 use Rattle.remove.specs.Loss.{lossOf, settledBy}
 use Rattle.remove.proofs.StretchLaws.{bound-back}
 use Rattle.remove.proofs.PlaceLaws.{held, order}

@@ -1,6 +1,6 @@
 -- What a well-formed state says of its arrays: their lengths and counts, and that each stored frame stands on one of the tracks and is
 -- shown before `beyond`.
-use mathlib.Core.Path.{_≡_, refl}
+use mathlib.Core.Path.{_≡_, sym, refl}
 use mathlib.Core.Bool.{Bool, true}
 use mathlib.Core.List.{List, [], _∷_}
 use Prim.Native.Nat.{ℕ, zero, suc, _+_, _-_, _≤_, _<_}
@@ -15,6 +15,7 @@ use Rattle.laws.proofs.IntLaws.{test-le, test-lt, lt-test, le-lt}
 use Rattle.laws.proofs.ListLaws.{first-length}
 use Rattle.buffer_state.specs.declared.Frame.{Frame}
 use Rattle.buffer_state.specs.declared.Head.{Head}
+use Rattle.buffer_state.specs.declared.Track.{Track}
 use Rattle.buffer_state.specs.Buffer.{Buffer, zeroTrack, trackOf}
 use Rattle.buffer_state.specs.Layout.{zeroFrame, bufferOf, wellFormed}
 use Rattle.buffer_state.specs.Lent.{framesOf, Lengths, stateAt, wellFormedAt}
@@ -86,6 +87,14 @@ module _ (h : Head) (ts : List (List ℤ)) (gs : List (List ℕ)) (w : wellForme
 
   pub on-tracks : allOf onTrack (held h ts gs .frames) ≡ true
   on-tracks = all-weaker isGood onTrack (λ f g. lt-ltb (f .track) 5 (good-inside f g)) (held h ts gs .frames) each-good
+
+  -- its track in the buffer is that of its number
+  pub track-of : (f : Frame) → isGood f ≡ true → getD (zeroTrack ∷ h .tracks) (f .track) zeroTrack ≡ trackOf (held h ts gs) (f .track)
+  track-of f g = let on = good-on f g in numbered (h .tracks) (f .track) (h .ntracks) (on .0) (on .1)
+    where
+      numbered : (l : List Track) (k n : ℕ) → 1 ≤ k → k ≤ n → getD (zeroTrack ∷ l) k zeroTrack ≡ getD (take n l) (k - 1) zeroTrack
+      numbered l zero n p q = absurd (omega (arith, p))
+      numbered l (suc j) n p q = let e : suc j - 1 ≡ j = omega arith in rw e (sym (getD-take n l j zeroTrack (omega (arith, q))))
 
   module _ (i : ℕ) (k : i < h .nframes) where
     abbrev frame : Frame

@@ -11,7 +11,8 @@ use Rattle.seconds.specs.declared.EndMicros.the-variants as End
 use Rattle.buffer_state.specs.declared.Refusal.the-variants.{Seconds}
 use Rattle.remove.specs.declared.Stretch.{Stretch}
 use Rattle.remove.specs.declared.Stretch.the-variants.{Refused}
-use Rattle.remove.specs.Edges.{nowhere, boundIn, instantOf, inOrder, stretchOf}
+use Rattle.taking.specs.Loss.{boundIn}
+use Rattle.remove.specs.Edges.{nowhere, instantOf, inOrder, stretchOf}
 
 pub bound-back : (b : Bound) → boundIn (instantOf b) ≡ b
 bound-back unbounded = refl

@@ -13,7 +13,8 @@ use Rattle.buffer_state.specs.declared.Refusal.the-variants.{Seconds, Order}
 use Rattle.buffer_state.specs.Remove.{beforeBound, farEdge}
 use Rattle.taking.specs.declared.Span.{Span}
 use Rattle.taking.specs.Taking.{noSpan}
-use Rattle.remove.specs.declared.Instant.{Instant}
+use Rattle.taking.specs.declared.Instant.{Instant}
+use Rattle.taking.specs.Loss.{boundIn}
 use Rattle.remove.specs.declared.Stretch.{Stretch}
 use Rattle.remove.specs.declared.Stretch.the-variants.{Over, Refused}
 
@@ -22,10 +23,6 @@ use Rattle.remove.specs.declared.Stretch.the-variants.{Over, Refused}
 -- no instant, kept as zero
 abbrev pub nowhere : Instant
 nowhere = record { set = false; micros = pos 0 }
-
--- the bound that an instant is
-abbrev pub boundIn : Instant → Bound
-boundIn i = cond (i .set) (at (i .micros)) unbounded
 
 -- the instant that holds a bound
 abbrev pub instantOf : Bound → Instant

@@ -1,19 +1,21 @@
 // Removing a stretch of time: document 01, "Removing, aborting, setting". Any state and any times may be handed in.
 ghost use mathlib.Core.Path.{_≡_};
-ghost use mathlib.Core.Bool.{true, not, _&&_};
+ghost use mathlib.Core.Bool.{true};
+ghost use mathlib.Core.List.{_∷_};
 ghost use Prim.Native.Nat.{_+_, _≤_, _<_};
 ghost use lib.ListN.{length, take};
 ghost use Rattle.seconds.specs.Seconds.{at, sameInt};
 ghost use Rattle.buffer_state.specs.declared.Frame.{Frame};
+ghost use Rattle.buffer_state.specs.Buffer.{zeroTrack};
 ghost use Rattle.buffer_state.specs.Answers.{counted, timesAfter, tagsAfter, listAfter, removeResult};
 ghost use Rattle.buffer_state.specs.Layout.{bufferOf};
 ghost use Rattle.buffer_state.specs.Lent.{framesOf, stateAt, wellFormedAt};
 ghost use Rattle.buffer_state.specs.Refusals.{refused, done};
 ghost use Rattle.buffer_state.specs.Remove.{beforeBound, removed};
 ghost use Rattle.buffer_state.specs.WellFormed.{allOf};
-ghost use Rattle.taking.specs.Taking.{inSpans, takenMarks};
-ghost use Rattle.remove.specs.Edges.{boundIn, instantOf, nowhere, inOrder, stretchOf, beyond, upTo, opensAfter, isNearer, FarSpans};
-ghost use Rattle.remove.specs.Loss.{lossOf, settledBy};
+ghost use Rattle.taking.specs.Loss.{boundIn};
+ghost use Rattle.remove.specs.Edges.{instantOf, nowhere, inOrder, stretchOf, beyond, upTo, opensAfter, isNearer, FarSpans};
+ghost use Rattle.remove.specs.Loss.{settledBy};
 use buffer_state::Count;
 use buffer_state::Counted;
 use buffer_state::Frame;
@@ -22,17 +24,12 @@ use buffer_state::Refusal;
 use buffer_state::Track;
 use seconds::EndMicros;
 use seconds::Micros;
+use taking::Instant;
 use taking::Span;
 
 const BEYOND: i64 = 4000000000001; // past every presentation time
 
 // ---- instants
-
-// An instant in microseconds, or none, which is kept as zero: the end of a removal, a loss.
-struct Instant {
-    set: bool,
-    micros: i64,
-}
 
 fn never() -> Instant
     ensures { λ r. ⌜ r ≡ nowhere ⌝ }
@@ -100,15 +97,6 @@ fn stretch_of(start: f64, end: f64) -> Stretch
 }
 
 // ---- a frame
-
-fn shown_at(f: Frame) -> Instant
-    ensures { λ r. ⌜ r ≡ instantOf (at (f .pts)) ⌝ }
-{
-    Instant {
-        set: true,
-        micros: f.pts,
-    }
-}
 
 fn shown_before(f: Frame, e: Instant) -> bool
     ensures { λ r. ⌜ r ≡ beforeBound (f .pts) (boundIn e) ⌝ }
@@ -182,54 +170,19 @@ fn far_spans(h: Head, whole: Span, end: Instant, times: &[[i64; 2]], tags: &[[u3
 
 // ---- the rule on the last decode time
 
-// The place of a frame's track among the four.
-fn place(f: Frame) -> usize
-    requires { ⌜ (1 ≤ f .track) × (f .track ≤ 4) ⌝ }
-    ensures { λ r. ⌜ (r + 1 ≡ f .track) × (r < 4) ⌝ }
+// The tracks by their numbers, which run from 1.
+fn by_number(t: [Track; 4]) -> [Track; 5]
+    ensures { λ r. ⌜ r ≡ zeroTrack ∷ t ⌝ }
 {
-    f.track as usize - 1
-}
-
-// Whether a frame has its track's last decode time.
-fn ends_track(f: Frame, t: Track) -> bool
-    ensures { λ r. ⌜ r ≡ (t .known && sameInt (f .dts) (t .dts)) ⌝ }
-{
-    t.known & limits::same_int(f.dts, t.dts)
-}
-
-// Where the first frame that goes and ends its track was shown. The walk is that of taking::take_out, before anything is written.
-fn loss(h: Head, first: usize, spans: [Span; 5], times: &[[i64; 2]], tags: &[[u32; 4]]) -> Instant
-    requires { ⌜ (wellFormedAt h (now times) (now tags) ≡ true) × (first ≤ h .nframes) × (allOf (λ (g : Frame). not (inSpans spans g)) (take first (take (h .nframes) (framesOf (now times) (now tags)))) ≡ true) ⌝ }
-    ensures { λ r. ⌜ boundIn r ≡ lossOf (bufferOf (stateAt h (now (times .entry)) (now (tags .entry)))) (takenMarks spans 6 (take (h .nframes) (framesOf (now (times .entry)) (now (tags .entry))))) ⌝ }
-{
-    let n = h.nframes;
-    let mut track: u32 = 0;
-    let mut follows = false;
-    let mut i = first;
-    while i < n {
-        let f = places::frame_at(times, tags, i);
-        let k = f.track as usize;
-        let s = spans[k];
-        let inside = taking::in_span(s, f);
-        if inside | follows {
-            if inside | (!f.flagged & (f.track == track)) {
-                let p = place(f);
-                let t = h.tracks[p];
-                if ends_track(f, t) {
-                    return shown_at(f);
-                }
-                track = f.track;
-                follows = true;
-                i += 1;
-            } else {
-                follows = false;
-                i += 1;
-            }
-        } else {
-            i += 1;
-        }
-    }
-    never()
+    let none = Track {
+        kind: 0,
+        known: false,
+        need: false,
+        duration: 0,
+        dts: 0,
+        end: 0,
+    };
+    [none, t[0], t[1], t[2], t[3]]
 }
 
 // The head with so many frames left, after such a loss: regrouped there, every track begun again.
@@ -280,11 +233,12 @@ fn remove_over(
             head: h,
         };
     }
-    let lost = loss(h, first, spans, times, tags);
-    let out = taking::take_out(times, tags, n, first, spans, 6, fates);
+    let tracks = h.tracks;
+    let numbered = by_number(tracks);
+    let out = taking::take_out(times, tags, n, first, spans, numbered, 6, fates);
     Counted {
         answer: Count::Done(out.lines),
-        head: settled(h, out.left, lost),
+        head: settled(h, out.left, out.lost),
     }
 }
 

@@ -5,3 +5,4 @@ pub mod LoopLaws
 pub mod EndLaws
 pub mod FromLaws
 pub mod GoneLaws
+pub mod LossLaws

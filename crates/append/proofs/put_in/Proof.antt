@@ -40,7 +40,7 @@ insert-requires c κs =
     let s = t .before .before .before .before in
     let a = s .args in
     let e = t .take-out .ensures in
-    held-insertable (left s) (t .take-out .result .left) (t .take-out .last .0) (t .take-out .last .1 .0) (e .1 .1 .1 .0) (e .0) (e .1 .0)
+    held-insertable (left s) (t .take-out .result .left) (t .take-out .last .0) (t .take-out .last .1 .0) (e .1 .1 .1 .1 .0) (e .0) (e .1 .0)
     (freed (a .spans) (a .n) (a .first) (a .times .now) (a .tags .now) (s .pre .0) (s .pre .1) (s .pre .2)) (in-order s)
 
 same-length : tie.Need-same-length
@@ -59,9 +59,9 @@ returns c =
     let s = t .before .before .before .before in
     let e = t .take-out .ensures in
     let f = s .args .f in
-    let first = held-first (left s) (t .take-out .result .left) (t .take-out .last .0) (t .take-out .last .1 .0) (e .1 .1 .1 .0) (e .0) (e .1 .0) in (
+    let first = held-first (left s) (t .take-out .result .left) (t .take-out .last .0) (t .take-out .last .1 .0) (e .1 .1 .1 .1 .0) (e .0) (e .1 .0) in (
       u .insert .ensures .0 ∙ ap (λ (l : List Frame). timesOf (padded places zeroFrame (insertSorted f l))) first,
-      (u .insert .ensures .1 ∙ ap (λ (l : List Frame). tagsOf (padded places zeroFrame (insertSorted f l))) first, (e .1 .1 .0, e .1 .1 .1)),
+      (u .insert .ensures .1 ∙ ap (λ (l : List Frame). tagsOf (padded places zeroFrame (insertSorted f l))) first, (e .1 .1 .0, e .1 .1 .1 .1)),
     )
 
 pub put-in-spec : {M : Type 1} → statement M

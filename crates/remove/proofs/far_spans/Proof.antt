@@ -15,7 +15,8 @@ use Rattle.buffer_state.specs.Lent.{framesOf}
 use Rattle.buffer_state.specs.Remove.{beforeBound}
 use Rattle.taking.specs.declared.Span.{Span}
 use Rattle.taking.specs.Taking.{noSpan}
-use Rattle.remove.specs.Edges.{boundIn, beyond, upTo, FarSpans}
+use Rattle.taking.specs.Loss.{boundIn}
+use Rattle.remove.specs.Edges.{beyond, upTo, FarSpans}
 use Rattle.remove.proofs.EdgeLaws.{spans-none, spans-nearer, spans-same}
 use Rattle.remove.proofs.PlaceLaws.{laid, long, few, isGood, frame-good, good-inside, good-shown}
 use Rattle.remove.proofs.far_spans.Statement.{statement}

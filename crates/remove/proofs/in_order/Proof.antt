@@ -9,7 +9,7 @@ use mir.Syntax.{w64}
 use mir.ValLaws.{toZ-ofZ}
 use Rattle.laws.proofs.WordLaws.{told}
 use Rattle.buffer_state.specs.Remove.{beforeBound}
-use Rattle.remove.specs.Edges.{boundIn}
+use Rattle.taking.specs.Loss.{boundIn}
 use Rattle.remove.proofs.in_order.Statement.{statement}
 use Rattle.remove.proofs.in_order.Tie as tie
 

@@ -2,7 +2,7 @@
 use mathlib.Core.Path.{_≡_}
 use borrow.Author.Needs.{needs}
 use Rattle.buffer_state.specs.Remove.{beforeBound}
-use Rattle.remove.specs.Edges.{boundIn}
+use Rattle.taking.specs.Loss.{boundIn}
 use Rattle.remove.proofs.opens.Statement.{statement}
 use Rattle.remove.proofs.opens.Tie as tie
 

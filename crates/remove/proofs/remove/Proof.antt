@@ -14,7 +14,7 @@ use Rattle.buffer_state.specs.Lent.{wellFormedAt}
 use Rattle.buffer_state.specs.Refusals.{Result, done}
 use Rattle.buffer_state.specs.Remove.{removed}
 use Rattle.buffer_laws.proofs.AnswerLaws.{answered}
-use Rattle.remove.specs.Edges.{boundIn}
+use Rattle.taking.specs.Loss.{boundIn}
 use Rattle.remove.proofs.CallLaws.{overStretch, ill-formed, short-list, by-stretch}
 use Rattle.remove.proofs.PlaceLaws.{held}
 use Rattle.remove.proofs.remove.Statement.{statement}

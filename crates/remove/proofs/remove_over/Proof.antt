@@ -13,6 +13,7 @@ use Rattle.laws.proofs.WordLaws.{told}
 use Rattle.seconds.specs.Seconds.{Bound}
 use Rattle.buffer_state.specs.declared.Count.the-variants.{Done}
 use Rattle.buffer_state.specs.declared.Frame.{Frame}
+use Rattle.buffer_state.specs.declared.Track.{Track}
 use Rattle.buffer_state.specs.Answers.{written}
 use Rattle.buffer_state.specs.Layout.{zeroFrame, padded}
 use Rattle.buffer_state.specs.Lent.{framesOf, timesOf, tagsOf}
@@ -22,10 +23,13 @@ use Rattle.buffer_state.specs.Store.{Line}
 use Rattle.buffer_state.specs.WellFormed.{allOf}
 use Rattle.buffer_laws.proofs.AnswerLaws.{answered}
 use Rattle.buffer_laws.proofs.LentLaws.{lent-back}
-use Rattle.taking.specs.Taking.{inSpans}
-use Rattle.remove.specs.Edges.{boundIn, FarSpans}
+use Rattle.taking.specs.Loss.{lossOf as lossIn}
+use Rattle.taking.specs.Taking.{inSpans, takenMarks}
+use Rattle.taking.specs.Loss.{boundIn}
+use Rattle.remove.specs.Edges.{FarSpans}
 use Rattle.remove.specs.Loss.{settledBy}
 use Rattle.remove.proofs.CallLaws.{head-left, kept-left, lines-told, nothing-goes}
+use Rattle.remove.proofs.LossLaws.{taken-loss}
 use Rattle.remove.proofs.PlaceLaws.{held, laid, long, few, order, holding, on-tracks}
 use Rattle.remove.proofs.remove_over.Statement.{statement}
 use Rattle.remove.proofs.remove_over.Tie as tie
@@ -78,12 +82,12 @@ returns c =
     (back .tags)
     refl
 
-loss-requires : tie.Need-loss-requires
-loss-requires c κs = search needs
+by-number-requires : tie.Need-by-number-requires
+by-number-requires c κs = search needs
 
 take-out-requires : tie.Need-take-out-requires
 take-out-requires c κs =
-    let e = c .before .before .before .before .before .before in
+    let e = c .before .before .before .before .before in
     let f = e .before in
     let s = f .before .before .before .before .before .before .before in
     let a = s .args in
@@ -102,7 +106,7 @@ take-out-requires c κs =
 
 settled-requires : tie.Need-settled-requires
 settled-requires c κs =
-    let s = c .before .before .before .before .before .before .before .before .before .before .before .before .before .before .before .before .before .before in
+    let s = c .before .before .before .before .before .before .before .before .before .before .before .before .before .before .before .before .before in
     laid (s .args .h) (s .args .times .now) (s .args .tags .now) (s .pre .0) .ntracks
 
 same-length-3 : tie.Need-same-length-3
@@ -118,7 +122,7 @@ returns-2 : tie.Need-returns-2
 returns-2 c =
     let t = c .before .before .before .before in
     let o = t .before .before .before .before in
-    let e = o .before .before .before in
+    let e = o .before .before in
     let g = e .before .before .before .before in
     let s = g .before .before .before .before in
     let a = s .args in
@@ -126,8 +130,10 @@ returns-2 c =
     let head = head-left (a .h) (a .times .now) (a .tags .now) (s .pre .0) (a .start) (boundIn (a .end)) (g .far-spans .result) (far g) in
     let left = kept-left (a .h) (a .times .now) (a .tags .now) (s .pre .0) (a .start) (boundIn (a .end)) (g .far-spans .result) (far g) in
     let lines = lines-told (a .h) (a .times .now) (a .tags .now) (s .pre .0) (a .start) (boundIn (a .end)) (g .far-spans .result) (far g) in
-    let settled = c .settled .ensures ∙ ap₂ (λ (x : Bound) (n : ℕ). settledBy x n (a .h)) (o .loss .ensures) (out .1 .1 .1 .0) ∙ head in
-    let answer = ap Done (out .1 .1 .1 .1 ∙ ap length lines) in (
+    let marks = takenMarks (g .far-spans .result) 6 (held (a .h) (a .times .now) (a .tags .now) .frames) in
+    let lost = out .1 .1 .1 .0 ∙ ap (λ (l : List Track). lossIn l marks) (o .by-number .ensures) ∙ taken-loss (a .h) (a .times .now) (a .tags .now) (s .pre .0) (g .far-spans .result) in
+    let settled = c .settled .ensures ∙ ap₂ (λ (x : Bound) (n : ℕ). settledBy x n (a .h)) lost (out .1 .1 .1 .1 .0) ∙ head in
+    let answer = ap Done (out .1 .1 .1 .1 .1 ∙ ap length lines) in (
       λ j. record { answer = answer j; head = settled j },
       (
         out .0 ∙ ap (λ (x : List Frame). timesOf (padded places zeroFrame x)) left,
@@ -145,7 +151,7 @@ remove-over-spec =
     same-length
     same-length-2
     returns
-    loss-requires
+    by-number-requires
     take-out-requires
     settled-requires
     same-length-3

@@ -2,7 +2,7 @@
 use borrow.Author.Needs.{needs}
 use Rattle.laws.proofs.WordLaws.{told}
 use Rattle.buffer_state.specs.Remove.{beforeBound}
-use Rattle.remove.specs.Edges.{boundIn}
+use Rattle.taking.specs.Loss.{boundIn}
 use Rattle.remove.proofs.shown_before.Statement.{statement}
 use Rattle.remove.proofs.shown_before.Tie as tie
 
