@@ -1,5 +1,5 @@
 -- Document 01, "Soundings to check against": cases A to K in one table, each with its whole outcome, and one proof
--- over all of it; with them two refused calls of L in the midst of a run.
+-- over all of it; with them two refused calls of L in the midst of a run, and two removals of our own.
 -- Video, one track, durations 100; R is a flagged frame, P one that is not, both given by presentation and decode time.
 use mathlib.Core.Path.{_≡_, refl}
 use mathlib.Core.Bool.{Bool, true, false}
@@ -7,7 +7,7 @@ use mathlib.Core.List.{List, [], _∷_, map}
 use Prim.Native.Nat.{ℕ}
 use lib.IntN.{ℤ, pos, negℤ}
 use lib.Ieee.{Float, binary64, ofBits, ofInt, div}
-use Rattle.seconds.specs.Seconds.{tieOf, roundOf, nearestOf, convertible, convertibleEnd, microsOf, secondsOf, boundOf, sameInt}
+use Rattle.seconds.specs.Seconds.{tieOf, roundOf, nearestOf, convertible, convertibleEnd, microsOf, secondsOf, boundOf, zeroSeconds, sameInt}
 use Rattle.buffer_state.specs.declared.Frame.{Frame}
 use Rattle.buffer_state.specs.declared.Track.{Track}
 use Rattle.buffer_state.specs.declared.Mode.the-variants.{Segments, Sequence}
@@ -233,6 +233,26 @@ caseL = record {
   ranges = caseA .ranges;
 }
 
+-- Ours: a frame lost by cause 5 counts as one lost. R shown 100 decoded 0, R shown 0 decoded 100, P 200, remove 0 to 0.00005: (2,6) (3,5),
+-- group end 200, the three unset.
+abbrev caseM : Case
+caseM = record {
+  calls = R 100 0 ∷ R 0 100 ∷ P 200 200 ∷ removing zeroSeconds at50 ∷ [];
+  results = told [] ∷ told [] ∷ told [] ∷ told (line 2 6 ∷ line 3 5 ∷ []) ∷ [];
+  left = plain waiting (frame 1 true 100 0 ∷ []) 200 3;
+  ranges = range 100 200 ∷ [];
+}
+
+-- Ours: of two lost frames with the last decode time, the first on the list counts. R shown 200 decoded 0, R shown 0 decoded 0, remove 0
+-- to 0.00035: (1,6) (2,6), group end 200, the three unset.
+abbrev caseN : Case
+caseN = record {
+  calls = R 200 0 ∷ R 0 0 ∷ removing zeroSeconds at350 ∷ [];
+  results = told [] ∷ told [] ∷ told (line 1 6 ∷ line 2 6 ∷ []) ∷ [];
+  left = plain waiting [] 200 2;
+  ranges = [];
+}
+
 -- The table. K: 0.0078125 gives 7812, 0.0234375 gives 23438, -0.0078125 gives -7812, the smallest positive double gives 0,
 -- 1,000,000 gives 1,000,000,000,000.
 abbrev pub table : List Case
@@ -246,7 +266,7 @@ table =
     ∷ caseK 0xbf80_0000_0000_0000 (negℤ (pos 7812))
     ∷ caseK 0x0000_0000_0000_0001 (pos 0)
     ∷ caseK 0x412e_8480_0000_0000 (pos 1000000000000)
-    ∷ caseL
+    ∷ caseL ∷ caseM ∷ caseN
     ∷ []
 
 -- what the definitions make of a case's calls

@@ -2,8 +2,9 @@
 // number) for each place. A place is read as a Frame by value and written from one.
 ghost use mathlib.Core.Path.{_≡_};
 ghost use mathlib.Core.Bool.{true};
+ghost use mathlib.Core.List.{_++_};
 ghost use Prim.Native.Nat.{_≤_, _<_};
-ghost use lib.ListN.{length, take, getD, set};
+ghost use lib.ListN.{length, take, drop, getD, set};
 ghost use lib.Signed.{ltZ};
 ghost use Rattle.buffer_state.specs.Layout.{zeroFrame, padded};
 ghost use Rattle.buffer_state.specs.Store.{before, insertSorted};
@@ -174,4 +175,19 @@ pub fn insert(times: &mut [[i64; 2]], tags: &mut [[u32; 4]], n: usize, f: Frame)
     open_times(times, p, n);
     open_tags(tags, p, n);
     put_at(times, tags, p, f);
+}
+
+// ---- rows of times, and of ranges, which are as wide
+
+// The first n rows of a list, copied to another.
+pub fn copy_rows(from: &[[i64; 2]], n: usize, to: &mut [[i64; 2]])
+    requires { ⌜ (n ≤ length (now from)) × (n ≤ length (now to)) ⌝ }
+    ensures { λ r. ⌜ now (to .exit) ≡ take n (now (from .entry)) ++ drop n (now (to .entry)) ⌝ }
+{
+    let mut i: usize = 0;
+    while i < n {
+        let row = from[i];
+        to[i] = row;
+        i += 1;
+    }
 }

@@ -5,7 +5,6 @@ use buffer_state::Head;
 use buffer_state::Refusal;
 ghost use mathlib.Core.Path.{_≡_};
 ghost use mathlib.Core.Bool.{true, cond};
-ghost use mathlib.Core.List.{_++_};
 ghost use Prim.Native.Nat.{_+_, _-_, _%_, _<_, _≤_};
 ghost use lib.ListN.{length, take, drop, set};
 ghost use lib.Signed.{ltZ};
@@ -42,19 +41,6 @@ fn put(spans: &mut [[i64; 2]], k: usize, x: Span)
 {
     let row = [x.start, x.end];
     spans[k] = row;
-}
-
-// The first n rows of a list of ranges, copied to another.
-fn copy_rows(from: &[[i64; 2]], n: usize, to: &mut [[i64; 2]])
-    requires { ⌜ (n ≤ length (now from)) × (n ≤ length (now to)) ⌝ }
-    ensures { λ r. ⌜ now (to .exit) ≡ take n (now (from .entry)) ++ drop n (now (to .entry)) ⌝ }
-{
-    let mut i: usize = 0;
-    while i < n {
-        let row = from[i];
-        to[i] = row;
-        i += 1;
-    }
 }
 
 // ---- a track's ranges: a walk over its frames in presentation order
@@ -461,7 +447,7 @@ pub fn track_ranges(
     if list.len() < n {
         return Count::Refused(Refusal::ShortRanges);
     }
-    copy_rows(&spans, n, list);
+    places::copy_rows(&spans, n, list);
     Count::Done(n)
 }
 
@@ -482,6 +468,6 @@ pub fn common_ranges(
     if list.len() < all {
         return Count::Refused(Refusal::ShortRanges);
     }
-    copy_rows(&spans, all, list);
+    places::copy_rows(&spans, all, list);
     Count::Done(all)
 }

@@ -138,12 +138,8 @@ fn copy_times(from: &[[i64; 2]], to: &mut [[i64; 2]])
     requires { ⌜ length (now from) ≡ length (now to) ⌝ }
     ensures { λ r. ⌜ now (to .exit) ≡ now (from .entry) ⌝ }
 {
-    let mut i: usize = 0;
-    while i < from.len() {
-        let time = from[i];
-        to[i] = time;
-        i += 1;
-    }
+    let n = from.len();
+    places::copy_rows(from, n, to);
 }
 
 fn copy_tags(from: &[[u32; 4]], to: &mut [[u32; 4]])

@@ -1,73 +1,23 @@
--- The invariant: the first i rows are copied.
-use mathlib.Core.Path.{_≡_, refl, _∙_}
-use mathlib.Core.List.{[], _++_}
-use Prim.Native.Nat.{_-_, _≤_}
-use native.Mathlib.Omega.{arith}
-use lib.ListN.{length, take, drop, length-set}
-use Rattle.slots.proofs.CopyLaws.{copy-more, copy-all}
+-- All rows are copied.
+use native.Mathlib.Nat.{le-refl}
+use lib.ListN.{length}
+use Rattle.slots.proofs.CopyLaws.{copy-all}
 use borrow.Author.Needs.{needs}
 use Rattle.slots.proofs.copy_times.Statement.{statement}
 use Rattle.slots.proofs.copy_times.Tie as tie
 
-abbrev Inv-loop : tie.InvT-loop
-Inv-loop from to₀ i₀ to i = (i ≤ length from) × (length to ≡ length to₀) × (to ≡ take i from ++ drop i to₀)
+copy-rows-requires : tie.Need-copy-rows-requires
+copy-rows-requires c κs = search needs
 
-abbrev μ-loop : tie.MeasureT-loop
-μ-loop from to₀ i₀ to i = length from - i
-
-loop-holds : tie.Need-loop-holds Inv-loop μ-loop
-loop-holds c = (search needs, refl, refl)
-
-mul-time : tie.Need-mul-time Inv-loop μ-loop
-mul-time c = search needs
-
-shared-slice-copy-out-time : tie.Need-shared-slice-copy-out-time Inv-loop μ-loop
-shared-slice-copy-out-time c = search needs
-
-mul-time-2 : tie.Need-mul-time-2 Inv-loop μ-loop
-mul-time-2 c = search needs
-
-slice-set-from-time : tie.Need-slice-set-from-time Inv-loop μ-loop
-slice-set-from-time c = search needs
-
-add-i : tie.Need-add-i Inv-loop μ-loop
-add-i c = search needs
-
-loop-less : tie.Need-loop-less Inv-loop μ-loop
-loop-less c = search needs
-
-loop-again : tie.Need-loop-again Inv-loop μ-loop
-loop-again c =
-    let l = c .before in
-    let d = l .before in
-    let s = d .before in (
-      search needs,
-      length-set (d .loop .to) (d .loop .i) _ ∙ d .loop .inv .1,
-      copy-more (s .args .from .now) (s .args .to .now) (d .loop .to) (s .pre) (d .loop .i) (d .loop .inv .2) [] (l .loop-test .taken),
-    )
-
-same-length : tie.Need-same-length Inv-loop μ-loop
+same-length : tie.Need-same-length
 same-length c = search needs
 
-returns : tie.Need-returns Inv-loop μ-loop
+returns : tie.Need-returns
 returns c =
     let d = c .before in
-    let s = d .before in
-    copy-all (s .args .from .now) (s .args .to .now) (d .loop .to) (s .pre) (d .loop .i) (d .loop .inv .2) (c .loop-test .left)
+    let s = d .before .before in
+    let from = s .args .from .now in
+    copy-all from (s .args .to .now) _ (s .pre) (length from) (d .copy-rows .ensures) (le-refl (length from))
 
 pub copy-times-spec : {M : Type 1} → statement M
-copy-times-spec =
-    tie.close
-    (tie.spec
-    Inv-loop
-    μ-loop
-    loop-holds
-    mul-time
-    shared-slice-copy-out-time
-    mul-time-2
-    slice-set-from-time
-    add-i
-    loop-less
-    loop-again
-    same-length
-    returns)
+copy-times-spec = tie.close (tie.spec copy-rows-requires same-length returns)

@@ -8,10 +8,10 @@ use lib.IntN.{ℤ}
 use lib.ListN.{length, take, drop, getD, set, length-set}
 use lib.Seq.{take-suc}
 use Rattle.laws.proofs.ListLaws.{first-length}
 use Rattle.places.proofs.ListLaws.{front-more}
 use borrow.Author.Needs.{needs}
-use Rattle.ranges.proofs.copy_rows.Statement.{statement}
-use Rattle.ranges.proofs.copy_rows.Tie as tie
+use Rattle.places.proofs.copy_rows.Statement.{statement}
+use Rattle.places.proofs.copy_rows.Tie as tie
 
 abbrev Inv-loop : tie.InvT-loop
 Inv-loop from n to₀ i₀ to i = (i ≤ n) × (length to ≡ length to₀) × (to ≡ take i from ++ drop i to₀)
