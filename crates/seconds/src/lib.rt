@@ -1,7 +1,9 @@
 // A time in seconds, an f64, and the same time in whole microseconds, an i64. The rule is in specs/Seconds.antt.
 ghost use mathlib.Core.Path.{_≡_};
+ghost use mathlib.Core.Bool.{not};
 ghost use Prim.Native.Nat.{_*_, _^_, _≤_, _<_};
 ghost use lib.IntN.{natAbs};
+ghost use lib.Ieee.{binary64, ofBits, toBits, nanBits};
 ghost use Rattle.seconds.specs.Seconds.{tieOf, nearestOf, signed, convertible, isPlusInfinity, microsAnswer, endAnswer, secondsOf, sameDouble};
 
 const SIGN: u64 = 0x8000_0000_0000_0000; // 2^63, the sign's bit
@@ -9,6 +11,8 @@ const SIGN: u64 = 0x8000_0000_0000_0000; // 2^63, the sign's bit
 const HIDDEN: u64 = 0x10_0000_0000_0000; // 2^52, the leading digit, which is not written
 
 const INFINITY: u64 = 0x7ff0_0000_0000_0000; // the bits of plus infinity
+
+const NAN: u64 = 0x7ff8_0000_0000_0000; // of the bits of a NaN, the ones that are written
 
 pub enum Micros {
     At(i64),
@@ -136,4 +140,33 @@ pub fn same_double(a: f64, b: f64) -> bool
     let p = f64::to_bits(a);
     let q = f64::to_bits(b);
     p == q
+}
+
+// ---- a double and its 64 bits
+
+// The bits are not those of a NaN.
+pub fn is_number(bits: u64) -> bool
+    ensures { λ r. ⌜ r ≡ not (nanBits binary64 bits) ⌝ }
+{
+    bits % SIGN <= INFINITY
+}
+
+// The double of these bits. Any NaN's bits give the one NaN.
+pub fn of_bits(bits: u64) -> f64
+    ensures { λ r. ⌜ r ≡ ofBits binary64 bits ⌝ }
+{
+    if !is_number(bits) {
+        return 0.0 / 0.0;
+    }
+    f64::from_bits(bits)
+}
+
+// The bits of a double. Which bits a NaN has is the machine's choice, so one pattern stands for them all.
+pub fn bits_of(x: f64) -> u64
+    ensures { λ r. ⌜ r ≡ toBits binary64 x ⌝ }
+{
+    if x != x {
+        return NAN;
+    }
+    f64::to_bits(x)
 }

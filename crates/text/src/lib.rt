@@ -1,10 +1,5 @@
 // Numbers, doubles, fate lines and ranges as text: written to standard output here, read from a word in read.rt.
-ghost use mathlib.Core.Path.{_≡_};
-ghost use lib.Ieee.{binary64, toBits};
-
 pub mod read;
-
-const NAN: u64 = 0x7ff8_0000_0000_0000;
 
 pub fn put(b: &[u8]) {
     io::write_all(1, b);
@@ -34,19 +29,9 @@ pub fn time(z: i64) {
     number(magnitude(z));
 }
 
-// The bits of a double. The bits of a NaN are the machine's choice, so one pattern stands for them all.
-fn bits_of(x: f64) -> u64
-    ensures { λ r. ⌜ r ≡ toBits binary64 x ⌝ }
-{
-    if x != x {
-        return NAN;
-    }
-    f64::to_bits(x)
-}
-
 pub fn double(x: f64) {
     put(b"0x");
-    io::print_hex(1, bits_of(x), 16);
+    io::print_hex(1, seconds::bits_of(x), 16);
 }
 
 fn fate(list: &[[u32; 2]], i: usize) {

@@ -1,7 +1,6 @@
 // Numbers and doubles read from a word. specs/Reading.antt says what a word stands for.
 ghost use mathlib.Core.Path.{_≡_};
 ghost use Prim.Native.Nat.{_≤_, _<_};
-ghost use lib.Ieee.{binary64, ofBits};
 ghost use Rattle.text.specs.Reading.{digitOf, longerBy, digitsFrom, naturalOf, positiveOf, negativeOf, signOf, signedIn, wholeOf, powerOf, quotientOf, quotientIn, moreDigits, fractionIn, decimalOf};
 
 const PAST: u64 = 0x1000_0000_0000_0000; // 2^60, from which another digit may leave 64 bits
@@ -211,16 +210,6 @@ pub fn as_small(w: &[u8]) -> Small {
 
 // ---- doubles
 
-// The double of the bits n. Any NaN's bits give the one NaN.
-fn of_bits(n: u64) -> f64
-    ensures { λ r. ⌜ r ≡ ofBits binary64 n ⌝ }
-{
-    if INFINITY < n % SIGN {
-        return 0.0 / 0.0;
-    }
-    f64::from_bits(n)
-}
-
 fn power(k: usize) -> f64
     requires { ⌜ k < 23 ⌝ }
     ensures { λ r. ⌜ r ≡ powerOf k ⌝ }
@@ -298,16 +287,16 @@ fn pattern(w: &[u8]) -> Double {
     let Natural::Is(n) = digits(0, w, 16) else {
         return Double::Not;
     };
-    Double::Is(of_bits(n))
+    Double::Is(seconds::of_bits(n))
 }
 
 // A time in seconds, as the protocol writes it.
 pub fn as_double(w: &[u8]) -> Double {
     if check::same(w, b"inf") {
-        return Double::Is(of_bits(INFINITY));
+        return Double::Is(seconds::of_bits(INFINITY));
     }
     if check::same(w, b"-inf") {
-        return negated(Double::Is(of_bits(INFINITY)));
+        return negated(Double::Is(seconds::of_bits(INFINITY)));
     }
     if check::same(w, b"nan") {
         return Double::Is(0.0 / 0.0);

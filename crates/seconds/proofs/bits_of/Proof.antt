@@ -4,9 +4,9 @@ use lib.Dec.{T}
 use lib.Ieee.{binary64, toBits}
 use lib.Ieee.Compare.{differs-from-itself}
 use borrow.Author.Needs.{needs}
 use Rattle.seconds.proofs.DoubleLaws.{not-nan}
-use Rattle.text.proofs.bits_of.Statement.{statement}
-use Rattle.text.proofs.bits_of.Tie as tie
+use Rattle.seconds.proofs.bits_of.Statement.{statement}
+use Rattle.seconds.proofs.bits_of.Tie as tie
 
 returns : tie.Need-returns
 unfolding toBits
