@@ -16,3 +16,4 @@ pub mod SettingLaws
 pub mod RunLaws
 pub mod AccountLaws
 pub mod KindLaws
+pub mod KeptLaws
