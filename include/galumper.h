@@ -1,14 +1,17 @@
-/* Galumper: the frame buffer of the review console, for C and C++. Link target/staticlib/libexports.a (docs/EMBEDDING.md).
+/* Galumper: the frame buffer of the review console, for C11 and C++17. Link target/staticlib/libgalumper.a, which is for x86-64
+ * Linux (docs/EMBEDDING.md).
  *
  * The program owns a buffer, a galumper_buffer of 33 KB, and lends it to each call by its address; the call works in place. The
  * library keeps nothing and allocates nothing.
  *
- * Any bits may be handed in. A buffer that is not well-formed, a flag that is neither 0 nor 1, and a mode that is neither 0 nor
- * 1 have the call refused 1. What the caller owes is that no pointer is null, also where its length is 0, that each list has the
- * places that its length says and lies outside the buffer, and that nothing else touches buffer and list during the call. Calls
- * that take the buffer as const only read it, and may read it side by side.
+ * Any bits may be handed in. A buffer that is not well-formed has the call refused 1; an offered frame whose flag is neither 0
+ * nor 1 has it refused 4. What the caller owes is that each list has the places that its length says and lies outside the buffer,
+ * and that nothing else touches buffer and list during the call. A list of length 0 may be a null pointer.
  *
- * Times are whole microseconds, and doubles are seconds.
+ * The library has no state of its own: different buffers may be used by different threads at once; one buffer is changed by one
+ * thread at a time, and calls that take it as const may run side by side.
+ *
+ * Times are whole microseconds, and doubles are seconds, which are rounded to the nearest microsecond, halves to the even one.
  */
 #ifndef GALUMPER_H
 #define GALUMPER_H
@@ -18,29 +21,59 @@
 
 #ifdef __cplusplus
 extern "C" {
+#else
+#include <stdbool.h>
 #endif
 
-/* The places of the store over all tracks, and of a fate list. */
+/* The version of this header, of its library and of the Rust crate. */
+#define GALUMPER_VERSION "0.2.0"
+
+/* By these two a library belongs to this header: the number of its layout and functions, and the bytes of a galumper_buffer. */
+#define GALUMPER_ABI 2
+#define GALUMPER_SIZE 32968
+
+/* The places of the store over all tracks. */
 #define GALUMPER_PLACES 1024
 
 /* The most tracks of a buffer. */
 #define GALUMPER_TRACKS 4
 
-/* Why a call is refused. A refused call changes nothing: buffer and lists stay as they were. Where several apply, the first in
- * the order of the call's own list below is given. */
+/* The lines that a fate list needs. */
+#define GALUMPER_FATES 1024
+
+/* So many places of a range list are always enough, for a track's ranges (never more than its stored frames) and for the common
+ * ranges. */
+#define GALUMPER_RANGES 1024
+
+/* What a track carries. */
+enum galumper_kind {
+    GALUMPER_VIDEO = 0,
+    GALUMPER_AUDIO = 1
+};
+
+/* How appended frames find their place in time: as their timestamps say, or each group after the one before. */
+enum galumper_mode {
+    GALUMPER_SEGMENTS = 0,
+    GALUMPER_SEQUENCE = 1
+};
+
+/* Why a call is refused. A refused call changes nothing: buffer and lists stay as they were, bit for bit. Where several apply,
+ * the first in the order of the call's own list below is given. */
 enum galumper_refusal {
     GALUMPER_DONE = 0,          /* not refused */
     GALUMPER_ILL_FORMED = 1,    /* the buffer is not well-formed */
     GALUMPER_SHORT_FATES = 2,   /* a fate list of fewer than 1,024 lines */
     GALUMPER_NO_TRACK = 3,      /* a track that the buffer does not have */
-    GALUMPER_FRAME_LIMITS = 4,  /* an offered frame outside the limits */
-    GALUMPER_SECONDS = 5,       /* a double that does not convert to microseconds */
-    GALUMPER_ORDER = 6,         /* a window or a removal whose start does not come before its end, or a negative start */
-    GALUMPER_RESULT_LIMITS = 7, /* a time that would leave the limits */
-    GALUMPER_FULL = 8,          /* no place left in the store */
-    GALUMPER_LAST_NUMBER = 9,   /* no frame number left to give */
+    GALUMPER_FRAME_LIMITS = 4,  /* a field of the offered frame outside its limit */
+    GALUMPER_SECONDS = 5,       /* a double that is NaN, infinite where it may not be, or beyond 1,000,000 either way */
+    GALUMPER_ORDER = 6,         /* a window or a removal whose start does not come before its end, or is negative: in microseconds */
+    GALUMPER_RESULT_LIMITS = 7, /* a time that would lie beyond 4,000,000,000,000 either way, with the timestamp offset added */
+    GALUMPER_FULL = 8,          /* no place for the frame, counting those that its append frees; a dropped frame needs none */
+    GALUMPER_LAST_NUMBER = 9,   /* no frame number left to give: the last is 4,294,967,295 */
     GALUMPER_SHORT_RANGES = 10, /* more ranges than the lent list has places */
-    GALUMPER_KINDS = 11         /* creation with no track, more than four, or an unknown kind */
+    GALUMPER_KINDS = 11,        /* creation with no track, more than four, or an unknown kind */
+    /* This header's own answer to a creation, and none of the library's: header and library do not belong together. */
+    GALUMPER_OTHER_LAYOUT = 255
 };
 
 /* Why a frame is on a fate line. */
@@ -56,51 +89,52 @@ enum galumper_cause {
 /* ---- what a buffer holds */
 
 /* A track. The last decode time, the last duration and the highest end are set together, where `known`. */
-typedef struct {
-    uint8_t kind;            /* 0 video, 1 audio */
+typedef struct galumper_track {
+    uint8_t kind;            /* an enum galumper_kind */
     uint8_t known;
-    uint8_t need;            /* 1: it waits for a random access point */
+    uint16_t need;           /* 1: it waits for a random access point */
     uint32_t duration;
     int64_t dts;
     int64_t end;
 } galumper_track;
 
 /* Where the next group of frames starts, if `begun`, and the end of the group so far. */
-typedef struct {
-    uint8_t begun;
+typedef struct galumper_group {
+    uint64_t begun;
     int64_t start;
     int64_t end;
 } galumper_group;
 
-/* A setting: the double as it was given, bit for bit, beside its microseconds. */
-typedef struct {
-    double seconds;
+/* A setting: the 64 bits of the double as it was given, beside its microseconds. A NaN's bits are not well-formed. */
+typedef struct galumper_setting {
+    uint64_t bits;
     int64_t micros;
 } galumper_setting;
 
-typedef struct {
+typedef struct galumper_settings {
     galumper_setting offset; /* timestamp offset */
     galumper_setting start;  /* append window start */
-    uint8_t bounded;         /* 1: there is an append window end */
-    double end;              /* the double given for it; 0.0 where there is none */
+    uint64_t bounded;        /* 1: there is an append window end */
+    uint64_t end;            /* the bits of the double given for it; 0 where there is none */
     int64_t limit;           /* its microseconds; 0 where there is none */
 } galumper_settings;
 
 /* Everything but the frames. */
-typedef struct {
+typedef struct galumper_head {
     galumper_track tracks[GALUMPER_TRACKS]; /* track n stands at n - 1; zeros past the count */
     size_t ntracks;
     size_t nframes;
-    uint32_t mode;           /* 0 segments, 1 sequence */
-    uint32_t last;           /* the last frame number given */
+    uint32_t mode;           /* an enum galumper_mode */
+    uint32_t last;           /* the last frame number given: that of the frame last appended, dropped or not */
     galumper_group group;
     galumper_settings settings;
 } galumper_head;
 
 /* A buffer. A stored coded frame has a row in `times` and one in `tags`, at the same place: `head.nframes` of them, sorted by
  * track, decode time and number, and zeros after them. The flag is 1 for a random access point; numbers are given from 1 in the
- * order of the appends. A buffer may be copied and kept as any struct. */
-typedef struct {
+ * order of the appends. A buffer may be read, copied and kept as any struct. No byte of it is padding: two buffers are the same
+ * exactly when memcmp says so, and its bytes may be saved and loaded (ask galumper_matches before a loaded one is used). */
+typedef struct galumper_buffer {
     galumper_head head;
     int64_t times[GALUMPER_PLACES][2]; /* presentation and decode timestamp, with the timestamp offset added */
     uint32_t tags[GALUMPER_PLACES][4]; /* track, flag, duration, number */
@@ -108,23 +142,36 @@ typedef struct {
 
 /* ---- what a call takes and answers */
 
-/* A coded frame as offered to an append. */
-typedef struct {
+/* A coded frame as offered to an append. Its timestamps are at most 1,000,000,000,000 either way. */
+typedef struct galumper_offered {
     uint32_t track;          /* from 1 */
     uint8_t flagged;         /* 1: a random access point */
-    uint32_t duration;
+    uint32_t duration;       /* from 1 to 10,000,000 */
     int64_t pts;             /* presentation timestamp */
     int64_t dts;             /* decode timestamp */
 } galumper_offered;
 
-/* What a call answers: 0 or an enum galumper_refusal, and how many lines or ranges it wrote to the lent list. */
-typedef struct {
+/* A line of a fate list: a frame that is dropped or removed. */
+typedef struct galumper_fate {
+    uint32_t number;
+    uint32_t cause;          /* an enum galumper_cause */
+} galumper_fate;
+
+/* A range of instants, from `start` up to `end`, which is outside. */
+typedef struct galumper_range {
+    int64_t start;
+    int64_t end;
+} galumper_range;
+
+/* What a call answers: an enum galumper_refusal, and how many lines or ranges it wrote to the lent list. Places of the list past
+ * these are not touched. */
+typedef struct galumper_answer {
     uint32_t refusal;
     size_t count;
 } galumper_answer;
 
 /* What reading the settings answers. `end` is 0.0 where `bounded` is 0. */
-typedef struct {
+typedef struct galumper_reading {
     uint32_t refusal;
     uint8_t bounded;
     double offset;
@@ -134,22 +181,25 @@ typedef struct {
 
 /* ---- the library's functions, on a head by value and arrays that are lent; a program uses the calls below */
 
-typedef struct {
+typedef struct galumper_answered {
     galumper_head head;
-    uint32_t refusal;
-    size_t count;
+    galumper_answer answer;
 } galumper_answered;
 
+uint32_t galumper_abi(void);
+size_t galumper_size(void);
 galumper_answered galumper_lent_create(const uint8_t *kinds, size_t ntracks, int64_t times[GALUMPER_PLACES][2],
                                        uint32_t tags[GALUMPER_PLACES][4]);
 galumper_answered galumper_lent_append(galumper_head head, galumper_offered frame, int64_t times[GALUMPER_PLACES][2],
-                                       uint32_t tags[GALUMPER_PLACES][4], uint32_t (*fates)[2], size_t lines);
+                                       uint32_t tags[GALUMPER_PLACES][4], galumper_fate *fates, size_t lines);
 galumper_answered galumper_lent_remove(galumper_head head, double start, double end, int64_t times[GALUMPER_PLACES][2],
-                                       uint32_t tags[GALUMPER_PLACES][4], uint32_t (*fates)[2], size_t lines);
+                                       uint32_t tags[GALUMPER_PLACES][4], galumper_fate *fates, size_t lines);
 galumper_answered galumper_lent_abort(galumper_head head, const int64_t times[GALUMPER_PLACES][2],
                                       const uint32_t tags[GALUMPER_PLACES][4]);
-galumper_answered galumper_lent_set_mode(galumper_head head, const int64_t times[GALUMPER_PLACES][2],
-                                         const uint32_t tags[GALUMPER_PLACES][4], uint32_t mode);
+galumper_answered galumper_lent_set_segments(galumper_head head, const int64_t times[GALUMPER_PLACES][2],
+                                             const uint32_t tags[GALUMPER_PLACES][4]);
+galumper_answered galumper_lent_set_sequence(galumper_head head, const int64_t times[GALUMPER_PLACES][2],
+                                             const uint32_t tags[GALUMPER_PLACES][4]);
 galumper_answered galumper_lent_set_offset(galumper_head head, const int64_t times[GALUMPER_PLACES][2],
                                            const uint32_t tags[GALUMPER_PLACES][4], double seconds);
 galumper_answered galumper_lent_set_window_start(galumper_head head, const int64_t times[GALUMPER_PLACES][2],
@@ -159,54 +209,89 @@ galumper_answered galumper_lent_set_window_end(galumper_head head, const int64_t
 galumper_reading galumper_lent_read_settings(galumper_head head, const int64_t times[GALUMPER_PLACES][2],
                                              const uint32_t tags[GALUMPER_PLACES][4]);
 galumper_answer galumper_lent_track_ranges(galumper_head head, const int64_t times[GALUMPER_PLACES][2],
-                                           const uint32_t tags[GALUMPER_PLACES][4], uint32_t track, int64_t (*ranges)[2],
+                                           const uint32_t tags[GALUMPER_PLACES][4], uint32_t track, galumper_range *ranges,
                                            size_t places);
 galumper_answer galumper_lent_common_ranges(galumper_head head, const int64_t times[GALUMPER_PLACES][2],
-                                            const uint32_t tags[GALUMPER_PLACES][4], int64_t (*ranges)[2], size_t places);
+                                            const uint32_t tags[GALUMPER_PLACES][4], galumper_range *ranges, size_t places);
 
-/* Keeps the head that a function answered, unless it refused, and hands on the rest. */
+/* A compiler that lays a struct out otherwise than the library reads it does not take this header. */
+#ifdef __cplusplus
+#define GALUMPER_LAID_OUT(as) static_assert(as, "galumper.h: a layout that is not the library's")
+#else
+#define GALUMPER_LAID_OUT(as) _Static_assert(as, "galumper.h: a layout that is not the library's")
+#endif
+GALUMPER_LAID_OUT(sizeof(galumper_buffer) == GALUMPER_SIZE);
+GALUMPER_LAID_OUT(offsetof(galumper_buffer, times) == 200);
+GALUMPER_LAID_OUT(offsetof(galumper_buffer, tags) == 200 + 16 * GALUMPER_PLACES);
+GALUMPER_LAID_OUT(sizeof(galumper_head) == 200 && offsetof(galumper_head, mode) == 112 && offsetof(galumper_head, settings) == 144);
+GALUMPER_LAID_OUT(sizeof(galumper_track) == 24 && offsetof(galumper_track, need) == 2 && offsetof(galumper_track, duration) == 4);
+GALUMPER_LAID_OUT(sizeof(galumper_group) == 24 && offsetof(galumper_group, start) == 8);
+GALUMPER_LAID_OUT(sizeof(galumper_setting) == 16);
+GALUMPER_LAID_OUT(sizeof(galumper_settings) == 56 && offsetof(galumper_settings, end) == 40);
+GALUMPER_LAID_OUT(sizeof(galumper_offered) == 32 && offsetof(galumper_offered, duration) == 8);
+GALUMPER_LAID_OUT(sizeof(galumper_fate) == 8 && sizeof(galumper_range) == 16);
+GALUMPER_LAID_OUT(sizeof(galumper_answer) == 16 && offsetof(galumper_answer, count) == 8);
+GALUMPER_LAID_OUT(sizeof(galumper_answered) == 216);
+GALUMPER_LAID_OUT(sizeof(galumper_reading) == 32 && offsetof(galumper_reading, offset) == 8);
+#undef GALUMPER_LAID_OUT
+
+/* Keeps the head that a function answered, unless it refused, and hands on its answer. */
 static inline galumper_answer galumper_kept(galumper_buffer *buffer, galumper_answered answered) {
-    galumper_answer answer;
-    if (answered.refusal == GALUMPER_DONE) {
+    if (answered.answer.refusal == GALUMPER_DONE) {
         buffer->head = answered.head;
     }
-    answer.refusal = answered.refusal;
-    answer.count = answered.count;
-    return answer;
+    return answered.answer;
 }
 
 /* ---- the calls */
 
-/* Makes `buffer`, whatever it holds, an empty one with a track for each kind: 0 video, 1 audio. Refused 11. */
-static inline galumper_answer galumper_create(galumper_buffer *buffer, const uint8_t *kinds, size_t ntracks) {
-    return galumper_kept(buffer, galumper_lent_create(kinds, ntracks, buffer->times, buffer->tags));
+/* Whether the library that is linked belongs to this header. A creation asks it too; a program that loads buffers asks it first. */
+static inline bool galumper_matches(void) {
+    return galumper_abi() == GALUMPER_ABI && galumper_size() == GALUMPER_SIZE;
 }
 
-/* Appends a frame. A frame that is dropped, and each stored frame that is lost, is told on a line of `fates`: its number, then
- * its cause. `count` says how many lines there are; `lines` is at least 1,024. Refused 1, 2, 3, 4, 9, 7, 8. */
-static inline galumper_answer galumper_append(galumper_buffer *buffer, galumper_offered frame, uint32_t (*fates)[2],
-                                              size_t lines) {
-    return galumper_kept(buffer, galumper_lent_append(buffer->head, frame, buffer->times, buffer->tags, fates, lines));
+/* Makes `buffer`, whatever it holds, an empty one with a track for each kind, an enum galumper_kind. Refused 255, 11. */
+static inline galumper_answer galumper_create(galumper_buffer *buffer, const uint8_t *kinds, size_t ntracks) {
+    const uint8_t none = 0; /* what stands for a list of no places, here and below */
+    if (!galumper_matches()) {
+        galumper_answer answer = {GALUMPER_OTHER_LAYOUT, 0};
+        return answer;
+    }
+    return galumper_kept(buffer, galumper_lent_create(ntracks ? kinds : &none, ntracks, buffer->times, buffer->tags));
+}
+
+/* Appends a frame. A frame that is dropped, and each stored frame that is lost, is told on a line of `fates`, and `count` says how
+ * many lines there are; `lines` is at least GALUMPER_FATES. Refused 1, 2, 3, 4, 9, 7, 8. */
+static inline galumper_answer galumper_append(galumper_buffer *buffer, galumper_offered frame, galumper_fate *fates, size_t lines) {
+    galumper_fate none;
+    return galumper_kept(buffer, galumper_lent_append(buffer->head, frame, buffer->times, buffer->tags, lines ? fates : &none, lines));
 }
 
 /* Removes, on each track, the frames that begin from `start` up to the first random access point at or after `end` (in seconds), and
- * the frames that depend on them; where there is no such point, or `end` is plus infinity, to the end. Fate lines are written as by an
- * append. Refused 1, 2, 5, 6. */
-static inline galumper_answer galumper_remove(galumper_buffer *buffer, double start, double end, uint32_t (*fates)[2],
-                                              size_t lines) {
-    return galumper_kept(buffer, galumper_lent_remove(buffer->head, start, end, buffer->times, buffer->tags, fates, lines));
+ * the frames that depend on them; where there is no such point, or `end` is plus infinity, all from `start` on. Fate lines are written as
+ * by an append. Where the frame last appended to a track goes, every track waits for a random access point. Refused 1, 2, 5, 6. */
+static inline galumper_answer galumper_remove(galumper_buffer *buffer, double start, double end, galumper_fate *fates, size_t lines) {
+    galumper_fate none;
+    return galumper_kept(buffer, galumper_lent_remove(buffer->head, start, end, buffer->times, buffer->tags, lines ? fates : &none, lines));
 }
 
-/* Aborts: every track waits for a random access point, and the append window is open again. Refused 1. */
+/* Aborts: every track waits for a random access point, the append window is from 0 on without an end, the timestamp offset stays.
+ * Refused 1. */
 static inline galumper_answer galumper_abort(galumper_buffer *buffer) {
     const galumper_buffer *lent = buffer;
     return galumper_kept(buffer, galumper_lent_abort(lent->head, lent->times, lent->tags));
 }
 
-/* Sets the mode: 0 segments, 1 sequence. Refused 1. */
-static inline galumper_answer galumper_set_mode(galumper_buffer *buffer, uint32_t mode) {
+/* Sets segments mode. Refused 1. */
+static inline galumper_answer galumper_set_segments(galumper_buffer *buffer) {
     const galumper_buffer *lent = buffer;
-    return galumper_kept(buffer, galumper_lent_set_mode(lent->head, lent->times, lent->tags, mode));
+    return galumper_kept(buffer, galumper_lent_set_segments(lent->head, lent->times, lent->tags));
+}
+
+/* Sets sequence mode. Refused 1. */
+static inline galumper_answer galumper_set_sequence(galumper_buffer *buffer) {
+    const galumper_buffer *lent = buffer;
+    return galumper_kept(buffer, galumper_lent_set_sequence(lent->head, lent->times, lent->tags));
 }
 
 /* Sets the timestamp offset. Refused 1, 5. */
@@ -215,7 +300,7 @@ static inline galumper_answer galumper_set_offset(galumper_buffer *buffer, doubl
     return galumper_kept(buffer, galumper_lent_set_offset(lent->head, lent->times, lent->tags, seconds));
 }
 
-/* Sets the append window start. Refused 1, 5, 6. */
+/* Sets the append window start, which is 0 in a fresh buffer. Refused 1, 5, 6. */
 static inline galumper_answer galumper_set_window_start(galumper_buffer *buffer, double seconds) {
     const galumper_buffer *lent = buffer;
     return galumper_kept(buffer, galumper_lent_set_window_start(lent->head, lent->times, lent->tags, seconds));
@@ -227,21 +312,69 @@ static inline galumper_answer galumper_set_window_end(galumper_buffer *buffer, d
     return galumper_kept(buffer, galumper_lent_set_window_end(lent->head, lent->times, lent->tags, seconds));
 }
 
-/* Reads the three settings, each double as it was given. Refused 1. */
+/* Reads the three settings, each double as it was given. Where an append in sequence mode has set the timestamp offset, it is its
+ * microseconds divided by 1,000,000. Refused 1. */
 static inline galumper_reading galumper_read_settings(const galumper_buffer *buffer) {
     return galumper_lent_read_settings(buffer->head, buffer->times, buffer->tags);
 }
 
-/* Writes the ranges that a track's frames cover, start and end each, in rising order. An instant is in one of them exactly when
- * a stored frame covers it. Refused 1, 3, 10. */
-static inline galumper_answer galumper_track_ranges(const galumper_buffer *buffer, uint32_t track, int64_t (*ranges)[2],
+/* Writes the ranges that a track's frames cover, in rising order. An instant is in one of them exactly when a stored frame covers
+ * it. Refused 1, 3, 10. */
+static inline galumper_answer galumper_track_ranges(const galumper_buffer *buffer, uint32_t track, galumper_range *ranges,
                                                     size_t places) {
-    return galumper_lent_track_ranges(buffer->head, buffer->times, buffer->tags, track, ranges, places);
+    galumper_range none;
+    return galumper_lent_track_ranges(buffer->head, buffer->times, buffer->tags, track, places ? ranges : &none, places);
 }
 
-/* Writes the ranges that are covered on every track. Refused 1, 10. */
-static inline galumper_answer galumper_common_ranges(const galumper_buffer *buffer, int64_t (*ranges)[2], size_t places) {
-    return galumper_lent_common_ranges(buffer->head, buffer->times, buffer->tags, ranges, places);
+/* Writes the ranges that are covered on every track, in rising order. Refused 1, 10. */
+static inline galumper_answer galumper_common_ranges(const galumper_buffer *buffer, galumper_range *ranges, size_t places) {
+    galumper_range none;
+    return galumper_lent_common_ranges(buffer->head, buffer->times, buffer->tags, places ? ranges : &none, places);
+}
+
+/* ---- what was answered, read */
+
+/* Whether an instant is in one of the first `count` ranges of a list. */
+static inline bool galumper_held(const galumper_range *ranges, size_t count, int64_t instant) {
+    for (size_t i = 0; i < count; i++) {
+        if (ranges[i].start <= instant && instant < ranges[i].end) {
+            return true;
+        }
+    }
+    return false;
+}
+
+/* A refusal in words. */
+static inline const char *galumper_refusal_name(uint32_t refusal) {
+    switch (refusal) {
+    case GALUMPER_DONE: return "done";
+    case GALUMPER_ILL_FORMED: return "the buffer is not well-formed";
+    case GALUMPER_SHORT_FATES: return "the fate list has fewer than 1,024 lines";
+    case GALUMPER_NO_TRACK: return "the buffer has no such track";
+    case GALUMPER_FRAME_LIMITS: return "the offered frame is outside the limits";
+    case GALUMPER_SECONDS: return "the seconds do not convert to microseconds";
+    case GALUMPER_ORDER: return "the start is negative or not before the end";
+    case GALUMPER_RESULT_LIMITS: return "a time would leave the limits";
+    case GALUMPER_FULL: return "the store is full";
+    case GALUMPER_LAST_NUMBER: return "the last frame number is given";
+    case GALUMPER_SHORT_RANGES: return "the range list has too few places";
+    case GALUMPER_KINDS: return "no track, more than four, or an unknown kind";
+    case GALUMPER_OTHER_LAYOUT: return "header and library do not belong together";
+    default: return "unknown refusal";
+    }
+}
+
+/* A cause in words. */
+static inline const char *galumper_cause_name(uint32_t cause) {
+    switch (cause) {
+    case GALUMPER_BEFORE_WINDOW: return "begins before the append window";
+    case GALUMPER_AFTER_WINDOW: return "ends after the append window";
+    case GALUMPER_NEEDS_POINT: return "its track waits for a random access point";
+    case GALUMPER_OVERLAPPED: return "overlapped by an appended frame";
+    case GALUMPER_DEPENDED: return "depended on a frame that is gone";
+    case GALUMPER_REMOVED: return "begins in a removed stretch";
+    default: return "unknown cause";
+    }
 }
 
 #ifdef __cplusplus

@@ -3,8 +3,8 @@
 use std::hint::black_box;
 use std::time::Instant;
 
-use script::Subject;
-use second::{Fate, Mode, Offered, Stretch, FRAME_PLACES};
+use script::{Pair, Subject};
+use second::{Mode, Offered, FRAME_PLACES};
 
 /// A frame lasts 40 ms: 25 frames a second.
 const FRAME: u32 = 40_000;
@@ -66,10 +66,10 @@ pub trait Measure {
 }
 
 /// The [`Measure`] of a [`Subject`].
-pub struct Runner<S> {
+pub struct Runner<S: Subject> {
     subject: S,
-    fates: Vec<Fate>,
-    ranges: Vec<Stretch>,
+    fates: Vec<S::Fate>,
+    ranges: Vec<S::Stretch>,
 }
 
 impl<S: Subject> Runner<S> {
@@ -77,8 +77,8 @@ impl<S: Subject> Runner<S> {
     pub fn new(subject: S) -> Self {
         Self {
             subject,
-            fates: vec![[0; 2]; FRAME_PLACES],
-            ranges: vec![[0; 2]; FRAME_PLACES],
+            fates: vec![Pair::of([0; 2]); FRAME_PLACES],
+            ranges: vec![Pair::of([0; 2]); FRAME_PLACES],
         }
     }
 

@@ -60,6 +60,8 @@ impl Build {
 
 impl Subject for Build {
     type State = State;
+    type Fate = Fate;
+    type Stretch = Stretch;
 
     fn append(
         &mut self,

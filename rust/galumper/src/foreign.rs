@@ -2,21 +2,24 @@
 //! value, and the arrays are lent.
 
 use crate::buffer::{Head, Offered, Tags, Times};
-use crate::{Fate, Stretch};
+use crate::lists::{Fate, Range};
+use crate::names::Kind;
 
-/// What a call that can change the buffer answers.
+/// The number of the layout and of the functions below; the library has its own to compare.
+pub const ABI: u32 = 2;
+
+/// What a call answers: its refusal, 0 for none, and how many lines or ranges it wrote.
 #[repr(C)]
-pub struct Answered {
-    pub head: Head,
+pub struct Answer {
     pub refusal: u32,
     pub count: usize,
 }
 
-/// What a report answers.
+/// What a call that can change the buffer hands back.
 #[repr(C)]
-pub struct Report {
-    pub refusal: u32,
-    pub count: usize,
+pub struct Answered {
+    pub head: Head,
+    pub answer: Answer,
 }
 
 /// What reading the settings answers.
@@ -30,8 +33,10 @@ pub struct Reading {
 }
 
 extern "C" {
+    pub fn galumper_abi() -> u32;
+    pub fn galumper_size() -> usize;
     pub fn galumper_lent_create(
-        kinds: *const u8,
+        kinds: *const Kind,
         ntracks: usize,
         times: &mut Times,
         tags: &mut Tags,
@@ -54,7 +59,8 @@ extern "C" {
         lines: usize,
     ) -> Answered;
     pub fn galumper_lent_abort(head: Head, times: &Times, tags: &Tags) -> Answered;
-    pub fn galumper_lent_set_mode(head: Head, times: &Times, tags: &Tags, mode: u32) -> Answered;
+    pub fn galumper_lent_set_segments(head: Head, times: &Times, tags: &Tags) -> Answered;
+    pub fn galumper_lent_set_sequence(head: Head, times: &Times, tags: &Tags) -> Answered;
     pub fn galumper_lent_set_offset(
         head: Head,
         times: &Times,
@@ -79,14 +85,14 @@ extern "C" {
         times: &Times,
         tags: &Tags,
         track: u32,
-        ranges: *mut Stretch,
+        ranges: *mut Range,
         places: usize,
-    ) -> Report;
+    ) -> Answer;
     pub fn galumper_lent_common_ranges(
         head: Head,
         times: &Times,
         tags: &Tags,
-        ranges: *mut Stretch,
+        ranges: *mut Range,
         places: usize,
-    ) -> Report;
+    ) -> Answer;
 }

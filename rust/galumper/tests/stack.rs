@@ -2,17 +2,19 @@
 
 use std::thread;
 
-use galumper::{Buffer, Offered, PLACES};
+use galumper::{Buffer, Fate, Kind, Mode, Offered, Range, FATES, PLACES, RANGES};
 
 /// What a thread needs for any call, with the few kilobytes of its own.
 const STACK: usize = 64 * 1024;
+
+const KINDS: [Kind; 4] = [Kind::VIDEO, Kind::AUDIO, Kind::VIDEO, Kind::AUDIO];
 
 /// The n-th frame, from 0, of a buffer whose four tracks take turns.
 fn frame(n: usize) -> Offered {
     let time = (n / 4) as i64 * 40_000;
     Offered {
         track: n as u32 % 4 + 1,
-        flagged: 1,
+        flagged: true,
         duration: 30_000,
         pts: time,
         dts: time,
@@ -22,8 +24,8 @@ fn frame(n: usize) -> Offered {
 /// A full buffer of four tracks. Numbers and presentation times are in no order, so that both are
 /// sorted; no two frames of a track touch, so that each is a range.
 fn full() -> Box<Buffer> {
-    let mut fates = [[0; 2]; PLACES];
-    let mut buffer = galumper::create(&[0, 1, 0, 1]).expect("four tracks");
+    let mut fates = [Fate::default(); FATES];
+    let mut buffer = galumper::create(&KINDS).expect("four tracks");
     for n in 0..PLACES {
         assert_eq!(buffer.append(frame(n), &mut fates), Ok(0));
     }
@@ -39,10 +41,11 @@ fn full() -> Box<Buffer> {
 fn every_call_on_a_small_stack() {
     let mut buffer = full();
     let calls = move || {
-        let (mut fates, mut list) = (vec![[0; 2]; PLACES], vec![[0; 2]; PLACES]);
+        let (mut fates, mut list) = (vec![Fate::default(); FATES], vec![Range::default(); RANGES]);
         assert_eq!(buffer.track_ranges(1, &mut list), Ok(256));
         assert_eq!(buffer.common_ranges(&mut list), Ok(256));
-        assert_eq!(buffer.set_mode(0), Ok(()));
+        assert_eq!(buffer.set_mode(Mode::Sequence), Ok(()));
+        assert_eq!(buffer.set_mode(Mode::Segments), Ok(()));
         assert_eq!(buffer.set_offset(0.0), Ok(()));
         assert_eq!(buffer.set_window_start(0.0), Ok(()));
         assert_eq!(buffer.set_window_end(60.0), Ok(()));
@@ -50,7 +53,7 @@ fn every_call_on_a_small_stack() {
         assert_eq!(buffer.abort(), Ok(()));
         assert_eq!(buffer.append(frame(500), &mut fates), Ok(1));
         assert_eq!(buffer.remove(0.0, 1.0, &mut fates), Ok(100));
-        assert!(galumper::create(&[0, 1]).is_ok());
+        assert!(galumper::create(&KINDS).is_ok());
     };
     let thread = thread::Builder::new().stack_size(STACK).spawn(calls);
     let joined = thread.expect("a thread").join();

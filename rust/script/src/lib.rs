@@ -8,6 +8,7 @@
 
 mod call;
 mod lent;
+mod pair;
 mod poke;
 mod print;
 mod proved;
@@ -15,6 +16,7 @@ mod session;
 mod subject;
 
 pub use call::Call;
+pub use pair::Pair;
 pub use poke::{FrameField, Poke, TrackField};
 pub use print::{bits, state_line};
 pub use proved::Proved;

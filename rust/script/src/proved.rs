@@ -2,10 +2,10 @@
 
 use std::array;
 
-use galumper::{Buffer, Refusal, Track};
+use galumper::{Buffer, Fate, Kind, Range, Refusal, Track};
 use second::{
-    End, Fate, Frame, Head, Maybe, Mode, Offered, Reading, Seconds, Settings, State, Stretch,
-    WindowEnd, TRACK_PLACES,
+    End, Frame, Head, Maybe, Mode, Offered, Reading, Seconds, Settings, State, WindowEnd,
+    TRACK_PLACES,
 };
 
 use crate::poke::{FrameField, Poke, TrackField};
@@ -16,19 +16,28 @@ use crate::subject::{Declined, Subject};
 pub struct Proved;
 
 fn numbered<A>(result: Result<A, Refusal>) -> Result<A, u32> {
-    result.map_err(|Refusal(number)| number)
+    result.map_err(Refusal::number)
 }
 
 /// Kinds are bytes there. 255 is none, as is every number above it.
-fn kind(number: u32) -> u8 {
-    u8::try_from(number).unwrap_or(u8::MAX)
+fn kind(number: u32) -> Kind {
+    Kind(u8::try_from(number).unwrap_or(u8::MAX))
+}
+
+fn mode_there(mode: Mode) -> galumper::Mode {
+    match mode {
+        Mode::Segments => galumper::Mode::Segments,
+        Mode::Sequence => galumper::Mode::Sequence,
+    }
 }
 
 impl Subject for Proved {
     type State = Box<Buffer>;
+    type Fate = Fate;
+    type Stretch = Range;
 
     fn create(&mut self, kinds: &[u32]) -> Result<Self::State, u32> {
-        let kinds: Vec<u8> = kinds.iter().copied().map(kind).collect();
+        let kinds: Vec<Kind> = kinds.iter().copied().map(kind).collect();
         numbered(galumper::create(&kinds))
     }
 
@@ -40,7 +49,7 @@ impl Subject for Proved {
     ) -> Result<usize, u32> {
         let offered = galumper::Offered {
             track: offered.track,
-            flagged: u8::from(offered.flagged),
+            flagged: offered.flagged,
             duration: offered.duration,
             pts: offered.pts,
             dts: offered.dts,
@@ -63,7 +72,7 @@ impl Subject for Proved {
     }
 
     fn set_mode(&mut self, buffer: &mut Self::State, mode: Mode) -> Result<(), u32> {
-        numbered(buffer.set_mode(mode_number(mode)))
+        numbered(buffer.set_mode(mode_there(mode)))
     }
 
     fn set_offset(&mut self, buffer: &mut Self::State, seconds: f64) -> Result<(), u32> {
@@ -91,12 +100,12 @@ impl Subject for Proved {
         &mut self,
         buffer: &Self::State,
         track: u32,
-        list: &mut [Stretch],
+        list: &mut [Range],
     ) -> Result<usize, u32> {
         numbered(buffer.track_ranges(track, list))
     }
 
-    fn common_ranges(&mut self, buffer: &Self::State, list: &mut [Stretch]) -> Result<usize, u32> {
+    fn common_ranges(&mut self, buffer: &Self::State, list: &mut [Range]) -> Result<usize, u32> {
         numbered(buffer.common_ranges(list))
     }
 
@@ -128,21 +137,21 @@ impl Subject for Proved {
         let settings = &mut head.settings;
         match *poke {
             Poke::LastNumber(number) => head.last = number.try_into()?,
-            Poke::Mode(mode) => head.mode = mode_number(mode),
+            Poke::Mode(mode) => head.mode = mode_there(mode).number(),
             Poke::GroupStart(Maybe { set, value }) => {
-                head.group.begun = u8::from(set);
+                head.group.begun = u64::from(set);
                 head.group.start = value;
             }
             Poke::GroupEnd(end) => head.group.end = end,
             Poke::OffsetMicros(micros) => settings.offset.micros = micros,
-            Poke::OffsetDouble(double) => settings.offset.seconds = double,
+            Poke::OffsetDouble(double) => settings.offset.bits = double.to_bits(),
             Poke::WindowStartMicros(micros) => settings.start.micros = micros,
-            Poke::WindowStartDouble(double) => settings.start.seconds = double,
+            Poke::WindowStartDouble(double) => settings.start.bits = double.to_bits(),
             Poke::WindowEndMicros(Maybe { set, value }) => {
-                settings.bounded = u8::from(set);
+                settings.bounded = u64::from(set);
                 settings.limit = value;
             }
-            Poke::WindowEndDouble(double) => settings.end = double,
+            Poke::WindowEndDouble(double) => settings.end = double.to_bits(),
             Poke::Tracks(count) => head.ntracks = count.try_into()?,
             Poke::Track(place, field) => poke_track(&mut head.tracks, place, field)?,
             Poke::Frames(count) => head.nframes = count.try_into()?,
@@ -152,16 +161,9 @@ impl Subject for Proved {
     }
 }
 
-fn mode_number(mode: Mode) -> u32 {
-    match mode {
-        Mode::Segments => 0,
-        Mode::Sequence => 1,
-    }
-}
-
 fn settings_seen(settings: &galumper::Settings) -> Settings {
     let seconds = |setting: galumper::Setting| Seconds {
-        double: setting.seconds,
+        double: setting.seconds(),
         micros: setting.micros,
     };
     Settings {
@@ -170,7 +172,7 @@ fn settings_seen(settings: &galumper::Settings) -> Settings {
         window_end: End {
             bounded: settings.bounded == 1,
             time: Seconds {
-                double: settings.end,
+                double: f64::from_bits(settings.end),
                 micros: settings.limit,
             },
         },
@@ -192,7 +194,7 @@ fn track_seen(track: Track) -> second::Track {
     let [decode, duration, end] = three(track.known);
     let maybe = |set, value| Maybe { set, value };
     second::Track {
-        kind: track.kind.into(),
+        kind: track.kind.0.into(),
         last_decode: maybe(decode, track.dts),
         last_duration: maybe(duration, track.duration.into()),
         highest_end: maybe(end, track.end),
@@ -228,7 +230,7 @@ fn poke_track(
     let track = tracks.get_mut(place).ok_or(Declined)?;
     let mut three = three(track.known);
     match field {
-        TrackField::Kind(kind) => track.kind = kind.try_into()?,
+        TrackField::Kind(kind) => track.kind = Kind(kind.try_into()?),
         TrackField::LastDecode(time) => {
             three[0] = time.set;
             track.dts = time.value;
@@ -241,7 +243,7 @@ fn poke_track(
             three[2] = time.set;
             track.end = time.value;
         }
-        TrackField::Need(need) => track.need = u8::from(need),
+        TrackField::Need(need) => track.need = u16::from(need),
     }
     track.known = known(three);
     Ok(())

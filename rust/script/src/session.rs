@@ -1,15 +1,16 @@
 //! A session: two slots for buffers, one saved state, and the lists that are lent.
 
-use second::{Fate, Reading, Stretch, WindowEnd};
+use second::{Reading, WindowEnd};
 
 use crate::call::Call;
 use crate::lent::Lent;
+use crate::pair::Pair;
 use crate::print::{bits, state_line};
 use crate::subject::{Declined, Subject};
 
 /// Numbers that no call writes, neither in fate lines nor in ranges.
-const FATE_MARK: Fate = [0xdead_beef, 0xfeed_f00d];
-const STRETCH_MARK: Stretch = [i64::MAX, i64::MIN];
+const FATE_MARK: [u32; 2] = [0xdead_beef, 0xfeed_f00d];
+const STRETCH_MARK: [i64; 2] = [i64::MAX, i64::MIN];
 
 /// A session with an implementation.
 pub struct Session<'a, S: Subject> {
@@ -17,8 +18,8 @@ pub struct Session<'a, S: Subject> {
     slots: [Option<S::State>; 2],
     in_use: usize,
     saved: Option<S::State>,
-    fates: Lent<Fate>,
-    ranges: Lent<Stretch>,
+    fates: Lent<S::Fate>,
+    ranges: Lent<S::Stretch>,
     /// Lines of a batch still to be passed over.
     batch: usize,
 }
@@ -31,8 +32,8 @@ impl<'a, S: Subject> Session<'a, S> {
             slots: [None, None],
             in_use: 0,
             saved: None,
-            fates: Lent::new(FATE_MARK),
-            ranges: Lent::new(STRETCH_MARK),
+            fates: Lent::new(Pair::of(FATE_MARK)),
+            ranges: Lent::new(Pair::of(STRETCH_MARK)),
             batch: 0,
         }
     }
@@ -152,13 +153,13 @@ fn settings(result: Result<Reading, u32>) -> String {
     }
 }
 
-fn fate(line: &Fate) -> String {
-    let [number, cause] = line;
+fn fate(line: &impl Pair<u32>) -> String {
+    let [number, cause] = line.numbers();
     format!("({number},{cause})")
 }
 
-fn stretch(stretch: &Stretch) -> String {
-    let [start, end] = stretch;
+fn stretch(stretch: &impl Pair<i64>) -> String {
+    let [start, end] = stretch.numbers();
     format!("[{start},{end})")
 }
 

@@ -6,6 +6,7 @@ use second::{
     Fate, Maybe, Mode, Offered, Reading, Refusal, State, Stretch, Trace, FRAME_PLACES, TRACK_PLACES,
 };
 
+use crate::pair::Pair;
 use crate::poke::{FrameField, Poke, TrackField};
 
 /// An implementation of the buffer. A refusal is its number, as one never heard of must be shown
@@ -13,6 +14,10 @@ use crate::poke::{FrameField, Poke, TrackField};
 pub trait Subject {
     /// The buffer, a plain value.
     type State: Clone;
+    /// A line of the fate lists that it is lent.
+    type Fate: Pair<u32>;
+    /// A place of the range lists that it is lent.
+    type Stretch: Pair<i64>;
 
     /// Creates a buffer.
     fn create(&mut self, kinds: &[u32]) -> Result<Self::State, u32>;
@@ -21,7 +26,7 @@ pub trait Subject {
         &mut self,
         state: &mut Self::State,
         offered: &Offered,
-        fates: &mut [Fate],
+        fates: &mut [Self::Fate],
     ) -> Result<usize, u32>;
     /// Removes a stretch of time.
     fn remove(
@@ -29,7 +34,7 @@ pub trait Subject {
         state: &mut Self::State,
         start: f64,
         end: f64,
-        fates: &mut [Fate],
+        fates: &mut [Self::Fate],
     ) -> Result<usize, u32>;
     /// Aborts.
     fn abort(&mut self, state: &mut Self::State) -> Result<(), u32>;
@@ -48,10 +53,14 @@ pub trait Subject {
         &mut self,
         state: &Self::State,
         track: u32,
-        list: &mut [Stretch],
+        list: &mut [Self::Stretch],
     ) -> Result<usize, u32>;
     /// Reports the ranges common to all tracks.
-    fn common_ranges(&mut self, state: &Self::State, list: &mut [Stretch]) -> Result<usize, u32>;
+    fn common_ranges(
+        &mut self,
+        state: &Self::State,
+        list: &mut [Self::Stretch],
+    ) -> Result<usize, u32>;
 
     /// The state as it lies, in the words of `second`; not a call of the buffer.
     fn view(&self, state: &Self::State) -> State;
@@ -82,6 +91,8 @@ fn numbered<A>(result: Result<A, Refusal>) -> Result<A, u32> {
 
 impl<T: Trace> Subject for Second<T> {
     type State = State;
+    type Fate = Fate;
+    type Stretch = Stretch;
 
     fn create(&mut self, kinds: &[u32]) -> Result<State, u32> {
         numbered(second::create(kinds))

@@ -1,0 +1,52 @@
+-- From what a call answered on the head that was read: what the exported call answers, and what it leaves of what is lent.
+use mathlib.Core.Path.{_≡_, refl, ap, _∙_}
+use mathlib.Core.List.{List}
+use Prim.Native.Nat.{ℕ}
+use lib.IntN.{ℤ}
+use Rattle.buffer_state.specs.declared.Changed.{Changed}
+use Rattle.buffer_state.specs.declared.Count.{Count}
+use Rattle.buffer_state.specs.declared.Counted.{Counted}
+use Rattle.buffer_state.specs.declared.Head.{Head}
+use Rattle.buffer_state.specs.Answers.{counted, timesAfter, tagsAfter, listAfter, rangeCount, rangesAfter}
+use Rattle.buffer_state.specs.Append.{Outcome}
+use Rattle.buffer_state.specs.Ranges.{Range}
+use Rattle.buffer_state.specs.Refusals.{Result, refused, done}
+use Rattle.buffer_laws.proofs.AnswerLaws.{Leaves}
+use Rattle.ranges.specs.Bars.{Reported}
+use Rattle.galumper.specs.declared.Answered.{Answered}
+use Rattle.galumper.specs.declared.FlatAnswer.{FlatAnswer}
+use Rattle.galumper.specs.declared.FlatHead.{FlatHead}
+use Rattle.galumper.specs.Calls.{handedBack, countedOut, outcomeOut, reportOut}
+
+-- ---- abort and the setters
+
+pub handed : (c : FlatHead) (call : Head → Changed) (h read : Head) (r : Changed) (out : Answered)
+    → h ≡ read → r ≡ call h → out ≡ handedBack c r → out ≡ handedBack c (call read)
+handed c call h read r out e a k = k ∙ ap (handedBack c) (a ∙ ap call e)
+
+-- ---- append and remove
+
+outcome-out : (c : FlatHead) (h : Head) (x : Result Outcome) → countedOut c (counted h x .answer) (counted h x .head) ≡ outcomeOut c x
+outcome-out c h (refused why) = refl
+outcome-out c h (done o) = refl
+
+-- x is the result on the head as it was read, y the definition's
+pub outcome : (c : FlatHead) (h : Head) (ts : List (List ℤ)) (gs ls : List (List ℕ)) (x y : Result Outcome) (r : Counted)
+    (times : List (List ℤ)) (tags after : List (List ℕ)) (out : Answered)
+    → x ≡ y → Leaves h ts gs ls x r times tags after → out ≡ countedOut c (r .answer) (r .head)
+    → (out ≡ outcomeOut c y) × ((times ≡ timesAfter y ts) × ((tags ≡ tagsAfter y gs) × (after ≡ listAfter y ls)))
+outcome c h ts gs ls x y r times tags after out e l k = (
+  k ∙ ap (λ (t : Counted). countedOut c (t .answer) (t .head)) (l .0) ∙ outcome-out c h x ∙ ap (outcomeOut c) e,
+  (
+    l .1 .0 ∙ ap (λ (z : Result Outcome). timesAfter z ts) e,
+    (l .1 .1 .0 ∙ ap (λ (z : Result Outcome). tagsAfter z gs) e, l .1 .1 .1 ∙ ap (λ (z : Result Outcome). listAfter z ls) e),
+  ),
+)
+
+-- ---- the reports
+
+pub reported : (lent : List (List ℤ)) (result : Head → Result (List Range)) (h read : Head) (r : Count) (after : List (List ℤ)) (out : FlatAnswer)
+    → h ≡ read → Reported r after (result h) lent → out ≡ reportOut r
+    → (out ≡ reportOut (rangeCount (result read))) × (after ≡ rangesAfter (result read) lent)
+reported lent result h read r after out e a k =
+    (k ∙ ap reportOut (a .answer ∙ ap (λ (t : Head). rangeCount (result t)) e), a .list ∙ ap (λ (t : Head). rangesAfter (result t) lent) e)

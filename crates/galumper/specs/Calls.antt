@@ -1,0 +1,75 @@
+-- What each exported call answers, from the call's own definition: after a refusal the flat head that was handed in, else the new
+-- head laid flat; the refusal number, 0 where there is none, and the count beside it.
+use mathlib.Core.List.{List}
+use Prim.Native.Nat.{ℕ}
+use lib.IntN.{ℤ}
+use lib.Ieee.{Float}
+use lib.ListN.{length}
+use Rattle.seconds.specs.Seconds.{zeroSeconds}
+use Rattle.buffer_state.specs.declared.Answer.{Answer}
+use Rattle.buffer_state.specs.declared.Answer.the-variants as Answer
+use Rattle.buffer_state.specs.declared.Changed.{Changed}
+use Rattle.buffer_state.specs.declared.Count.{Count}
+use Rattle.buffer_state.specs.declared.Count.the-variants as Count
+use Rattle.buffer_state.specs.declared.Head.{Head}
+use Rattle.buffer_state.specs.declared.Read.{Read}
+use Rattle.buffer_state.specs.declared.Read.the-variants as Read
+use Rattle.buffer_state.specs.Answers.{appendResult, removeResult}
+use Rattle.buffer_state.specs.Append.{Outcome}
+use Rattle.buffer_state.specs.Lent.{headOf}
+use Rattle.buffer_state.specs.Refusals.{Result, refused, done, refusalNumber}
+use Rattle.galumper.specs.declared.Answered.{Answered}
+use Rattle.galumper.specs.declared.FlatAnswer.{FlatAnswer}
+use Rattle.galumper.specs.declared.FlatHead.{FlatHead}
+use Rattle.galumper.specs.declared.FlatOffered.{FlatOffered}
+use Rattle.galumper.specs.declared.Reading.{Reading}
+use Rattle.galumper.specs.Flat.{headIn, headOut, offeredIn}
+
+-- the head as it came, with the refusal's number
+abbrev pub refusedWith : FlatHead → ℕ → Answered
+refusedWith c why = record { head = c; answer = record { refusal = why; count = 0 } }
+
+-- the head after the call, and its count
+abbrev pub doneWith : Head → ℕ → Answered
+doneWith h n = record { head = headOut h; answer = record { refusal = 0; count = n } }
+
+-- ---- creation, abort and the setters
+
+abbrev pub changedOut : FlatHead → Answer → Head → Answered
+changedOut c Answer.Done h = doneWith h 0
+changedOut c (Answer.Refused why) h = refusedWith c (refusalNumber why)
+
+abbrev pub handedBack : FlatHead → Changed → Answered
+handedBack c r = changedOut c (r .answer) (r .head)
+
+-- creation: after a refusal the head of zeros
+abbrev pub createdOut : Changed → Answered
+createdOut r = handedBack (headOut (r .head)) r
+
+-- ---- append and remove
+
+abbrev pub countedOut : FlatHead → Count → Head → Answered
+countedOut c (Count.Done n) h = doneWith h n
+countedOut c (Count.Refused why) h = refusedWith c (refusalNumber why)
+
+abbrev pub appendFlat : ℕ → FlatOffered → FlatHead → List (List ℤ) → List (List ℕ) → Result Outcome
+appendFlat lent f c = appendResult lent (offeredIn f) (headIn c)
+
+abbrev pub removeFlat : ℕ → Float → Float → FlatHead → List (List ℤ) → List (List ℕ) → Result Outcome
+removeFlat lent start end c = removeResult lent start end (headIn c)
+
+abbrev pub outcomeOut : FlatHead → Result Outcome → Answered
+outcomeOut c (refused why) = refusedWith c (refusalNumber why)
+outcomeOut c (done o) = doneWith (headOf (o .after)) (length (o .lines))
+
+-- ---- the reports and the settings
+
+abbrev pub reportOut : Count → FlatAnswer
+reportOut (Count.Done n) = record { refusal = 0; count = n }
+reportOut (Count.Refused why) = record { refusal = refusalNumber why; count = 0 }
+
+abbrev pub readingOut : Read → Reading
+readingOut (Read.Bounded offset start end) = record { refusal = 0; bounded = 1; offset = offset; start = start; end = end }
+readingOut (Read.Unbounded offset start) = record { refusal = 0; bounded = 0; offset = offset; start = start; end = zeroSeconds }
+readingOut (Read.Refused why) =
+    record { refusal = refusalNumber why; bounded = 0; offset = zeroSeconds; start = zeroSeconds; end = zeroSeconds }

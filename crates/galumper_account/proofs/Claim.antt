@@ -1,0 +1,313 @@
+-- The claim of demand 3 for the exported calls: every history of them is a history of the library's own, read in the account's words,
+-- so that the claim of the crate account holds of it. Every list of exported calls has a history, no exported call asks anything of its
+-- caller, and the running code meets the contracts of which a history is made.
+use mathlib.Core.Path.{_≡_, refl, sym, ap, _∙_}
+use mathlib.Core.List.{List, [], _∷_, map}
+use Prim.Native.Nat.{ℕ}
+use contract.Lifetimes.{Lfts}
+use denote.Ref.{RefT, now}
+use lib.IntN.{ℤ}
+use lib.Ieee.{Float}
+use lib.ListN.{length}
+use Rattle.buffer_state.specs.declared.Answer as Code
+use Rattle.buffer_state.specs.declared.Answer.the-variants as Said
+use Rattle.buffer_state.specs.declared.Changed.{Changed}
+use Rattle.buffer_state.specs.declared.Count.{Count}
+use Rattle.buffer_state.specs.declared.Count.the-variants as Count
+use Rattle.buffer_state.specs.declared.Counted.{Counted}
+use Rattle.buffer_state.specs.declared.Mode.the-variants.{Segments, Sequence}
+use Rattle.buffer_state.specs.declared.Read.{Read}
+use Rattle.buffer_state.specs.declared.Read.the-variants as Read
+use Rattle.buffer_state.specs.Answers.{changed, zeroHead, createAnswer, timesCreated, tagsCreated, timesAfter, tagsAfter, listAfter, abortAnswer, modeAnswer, offsetAnswer, windowStartAnswer, windowEndAnswer, settingsAnswer, rangeCount, rangesAfter, trackRangesResult, commonRangesResult}
+use Rattle.buffer_state.specs.Buffer.{Buffer, fresh}
+use Rattle.buffer_state.specs.Lent.{Lent}
+use Rattle.buffer_state.specs.Refusals.{Result, done}
+use Rattle.buffer_state.specs.Run.{Answer, Entry}
+use Rattle.buffer_state.specs.Settings.{create}
+use Rattle.account.specs.Made.{Listed, linesOf, rangesOf, changeOf, readingOf, resultOf, calls, entries}
+use Rattle.account.specs.History as Account
+use Rattle.account.proofs.Claim.{every-history}
+use Rattle.galumper.specs.declared.Answered.{Answered}
+use Rattle.galumper.specs.declared.FlatAnswer.{FlatAnswer}
+use Rattle.galumper.specs.declared.FlatHead.{FlatHead}
+use Rattle.galumper.specs.declared.FlatOffered.{FlatOffered}
+use Rattle.galumper.specs.Calls.{outcomeOut, handedBack, createdOut, appendFlat, removeFlat, reportOut, readingOut}
+use Rattle.galumper.specs.Flat.{headIn, headOut, offeredIn}
+use Rattle.galumper_account.specs.Told.{Ask, append, remove, abort, setSegments, setSequence, setOffset, setWindowStart, setWindowEnd, readSettings, trackRanges, commonRanges, Got, Told, numberIn, countOf, answerOf, readOf, given, back, made}
+use Rattle.galumper_account.specs.History.{Held, lentIn, From, none, by-append, by-remove, by-abort, by-segments, by-sequence, by-offset, by-window-start, by-window-end, by-reading, by-track-ranges, by-common-ranges, History, from, resultNumber, Claim, Happens}
+use Rattle.galumper_account.proofs.ReadLaws.{countNumber, answerNumber, readNumber, Reports, report-read, Reads, reading-read, Sound, Counts, Changes}
+use Rattle.galumper_account.proofs.StepLaws.{creation, appending, removing, aborting, mode-setting, offset-setting, window-start-setting, window-end-setting}
+use Rattle.galumper.proofs.galumper_lent_create.Reads as Create
+use Rattle.galumper.proofs.galumper_lent_append.Reads as Append
+use Rattle.galumper.proofs.galumper_lent_remove.Reads as Remove
+use Rattle.galumper.proofs.galumper_lent_abort.Reads as Abort
+use Rattle.galumper.proofs.galumper_lent_set_segments.Reads as SetSegments
+use Rattle.galumper.proofs.galumper_lent_set_sequence.Reads as SetSequence
+use Rattle.galumper.proofs.galumper_lent_set_offset.Reads as SetOffset
+use Rattle.galumper.proofs.galumper_lent_set_window_start.Reads as SetWindowStart
+use Rattle.galumper.proofs.galumper_lent_set_window_end.Reads as SetWindowEnd
+use Rattle.galumper.proofs.galumper_lent_read_settings.Reads as ReadSettings
+use Rattle.galumper.proofs.galumper_lent_track_ranges.Reads as TrackRanges
+use Rattle.galumper.proofs.galumper_lent_common_ranges.Reads as CommonRanges
+use Rattle.galumper.proofs.galumper_lent_create.Statement as CreateSays
+use Rattle.galumper.proofs.galumper_lent_append.Statement as AppendSays
+use Rattle.galumper.proofs.galumper_lent_remove.Statement as RemoveSays
+use Rattle.galumper.proofs.galumper_lent_abort.Statement as AbortSays
+use Rattle.galumper.proofs.galumper_lent_set_segments.Statement as SetSegmentsSays
+use Rattle.galumper.proofs.galumper_lent_set_sequence.Statement as SetSequenceSays
+use Rattle.galumper.proofs.galumper_lent_set_offset.Statement as SetOffsetSays
+use Rattle.galumper.proofs.galumper_lent_set_window_start.Statement as SetWindowStartSays
+use Rattle.galumper.proofs.galumper_lent_set_window_end.Statement as SetWindowEndSays
+use Rattle.galumper.proofs.galumper_lent_read_settings.Statement as ReadSettingsSays
+use Rattle.galumper.proofs.galumper_lent_track_ranges.Statement as TrackRangesSays
+use Rattle.galumper.proofs.galumper_lent_common_ranges.Statement as CommonRangesSays
+use Rattle.galumper.proofs.galumper_lent_create.Met as CreateMet
+use Rattle.galumper.proofs.galumper_lent_append.Met as AppendMet
+use Rattle.galumper.proofs.galumper_lent_remove.Met as RemoveMet
+use Rattle.galumper.proofs.galumper_lent_abort.Met as AbortMet
+use Rattle.galumper.proofs.galumper_lent_set_segments.Met as SetSegmentsMet
+use Rattle.galumper.proofs.galumper_lent_set_sequence.Met as SetSequenceMet
+use Rattle.galumper.proofs.galumper_lent_set_offset.Met as SetOffsetMet
+use Rattle.galumper.proofs.galumper_lent_set_window_start.Met as SetWindowStartMet
+use Rattle.galumper.proofs.galumper_lent_set_window_end.Met as SetWindowEndMet
+use Rattle.galumper.proofs.galumper_lent_read_settings.Met as ReadSettingsMet
+use Rattle.galumper.proofs.galumper_lent_track_ranges.Met as TrackRangesMet
+use Rattle.galumper.proofs.galumper_lent_common_ranges.Met as CommonRangesMet
+
+-- ---- the number of an answer is that of its result
+
+lines-number : (l : Listed (List ℕ)) (n : Count) → resultNumber (linesOf l n) ≡ countNumber n
+lines-number l (Count.Done n) = refl
+lines-number l (Count.Refused why) = refl
+
+ranges-number : (l : Listed (List ℤ)) (n : Count) → resultNumber (rangesOf l n) ≡ countNumber n
+ranges-number l (Count.Done n) = refl
+ranges-number l (Count.Refused why) = refl
+
+change-number : (a : Code.Answer) → resultNumber (changeOf a) ≡ answerNumber a
+change-number Said.Done = refl
+change-number (Said.Refused why) = refl
+
+read-number : (r : Read) → resultNumber (readingOf r) ≡ readNumber r
+read-number (Read.Bounded offset start end) = refl
+read-number (Read.Unbounded offset start) = refl
+read-number (Read.Refused why) = refl
+
+-- ---- every history of exported calls is one of the library's
+
+abbrev numbersOf : List Told → List ℕ
+numbersOf = map (λ (m : Told). numberIn (m .ask) (m .got))
+
+abbrev resultsOf : List Told → List ℕ
+resultsOf ms = map (λ (e : Entry). resultNumber (e .result)) (entries (map made ms))
+
+record Follows (c : Held) (ms : List Told) (t : Held) : Type 0 where
+  pub steps : Account.From (lentIn c) (map made ms) (lentIn t)
+  pub numbers : numbersOf ms ≡ resultsOf ms
+  pub laid : headOut (headIn (t .head)) ≡ t .head
+
+-- one call before the others
+one : {c d t : Held} {a : Ask} {g : Got a} {ms : List Told}
+    → numberIn a g ≡ resultNumber (resultOf (given a) (back a g))
+    → (Account.From (lentIn d) (map made ms) (lentIn t) → Account.From (lentIn c) (made (record { ask = a; got = g }) ∷ map made ms) (lentIn t))
+    → Follows d ms t → Follows c (record { ask = a; got = g } ∷ ms) t
+one number step rest = record {
+  steps = step (rest .steps);
+  numbers = λ i. number i ∷ rest .numbers i;
+  laid = rest .laid;
+}
+
+-- the number that a call answered, by what the library's call answers
+counting : {n : Counted} (r : Answered) (l : Listed (List ℕ)) → Counts n r → r .answer .refusal ≡ resultNumber (linesOf l (countOf (r .answer)))
+counting r l o = o .number ∙ sym (ap (λ (n : Counted). countNumber (n .answer)) (o .same)) ∙ sym (lines-number l (countOf (r .answer)))
+
+reporting : {n : Count} (r : FlatAnswer) (l : Listed (List ℤ)) → Reports n r → r .refusal ≡ resultNumber (rangesOf l (countOf r))
+reporting r l o = o .number ∙ sym (ap countNumber (o .same)) ∙ sym (ranges-number l (countOf r))
+
+changing : {n : Changed} (r : Answered) → Changes n r → r .answer .refusal ≡ resultNumber (changeOf (answerOf (r .answer)))
+changing r o = o .number ∙ sym (ap (λ (n : Changed). answerNumber (n .answer)) (o .same)) ∙ sym (change-number (answerOf (r .answer)))
+
+follows : {c t : Held} {ms : List Told} → Sound (c .head) → From c ms t → Follows c ms t
+follows s none = record { steps = Account.none; numbers = refl; laid = s .laid }
+follows {c} s (by-append f times tags lent r ts gs after κs h k) =
+    let o = appending (c .head) (c .times) (c .tags) s r (length (now lent)) f (h .0) in
+    one (counting r (record { answer = countOf (r .answer); after = after }) o)
+    (λ rest. Account.by-append (offeredIn f) times tags lent (record { answer = countOf (r .answer); head = headIn (r .head) }) ts gs after κs (o .same, h .1) rest)
+    (follows (o .sound) k)
+follows {c} s (by-remove start end times tags lent r ts gs after κs h k) =
+    let o = removing (c .head) (c .times) (c .tags) s r (length (now lent)) start end (h .0) in
+    one (counting r (record { answer = countOf (r .answer); after = after }) o)
+    (λ rest. Account.by-remove start end times tags lent (record { answer = countOf (r .answer); head = headIn (r .head) }) ts gs after κs (o .same, h .1) rest)
+    (follows (o .sound) k)
+follows {c} s (by-abort times tags r κs h k) =
+    let o = aborting (c .head) (c .times) (c .tags) s r h in
+    one (changing r o)
+    (λ rest. Account.by-abort times tags (record { answer = answerOf (r .answer); head = headIn (r .head) }) κs (o .same) rest)
+    (follows (o .sound) k)
+follows {c} s (by-segments times tags r κs h k) =
+    let o = mode-setting (c .head) (c .times) (c .tags) s r Segments h in
+    one (changing r o)
+    (λ rest. Account.by-mode Segments times tags (record { answer = answerOf (r .answer); head = headIn (r .head) }) κs (o .same) rest)
+    (follows (o .sound) k)
+follows {c} s (by-sequence times tags r κs h k) =
+    let o = mode-setting (c .head) (c .times) (c .tags) s r Sequence h in
+    one (changing r o)
+    (λ rest. Account.by-mode Sequence times tags (record { answer = answerOf (r .answer); head = headIn (r .head) }) κs (o .same) rest)
+    (follows (o .sound) k)
+follows {c} s (by-offset x f times tags r κs h k) =
+    let o = offset-setting (c .head) (c .times) (c .tags) s r x f h in
+    one (changing r o)
+    (λ rest. Account.by-offset x times tags (record { answer = answerOf (r .answer); head = headIn (r .head) }) κs (o .same) rest)
+    (follows (o .sound) k)
+follows {c} s (by-window-start x f times tags r κs h k) =
+    let o = window-start-setting (c .head) (c .times) (c .tags) s r x f h in
+    one (changing r o)
+    (λ rest. Account.by-window-start x times tags (record { answer = answerOf (r .answer); head = headIn (r .head) }) κs (o .same) rest)
+    (follows (o .sound) k)
+follows {c} s (by-window-end x f times tags r κs h k) =
+    let o = window-end-setting (c .head) (c .times) (c .tags) s r x f h in
+    one (changing r o)
+    (λ rest. Account.by-window-end x times tags (record { answer = answerOf (r .answer); head = headIn (r .head) }) κs (o .same) rest)
+    (follows (o .sound) k)
+follows {c} s (by-reading times tags r κs h k) =
+    let o : Reads (settingsAnswer (headIn (c .head)) (c .times) (c .tags)) r = rw h (reading-read _) in
+    one (o .number ∙ sym (ap readNumber (o .same)) ∙ sym (read-number (readOf r)))
+    (λ rest. Account.by-reading times tags (readOf r) κs (o .same) rest)
+    (follows s k)
+follows {c} s (by-track-ranges track times tags lent r after κs h k) =
+    let x = trackRangesResult (length (now lent)) track (headIn (c .head)) (c .times) (c .tags) in
+    let o : Reports (rangeCount x) r = rw (h .0) (report-read (rangeCount x)) in
+    one (reporting r (record { answer = countOf r; after = after }) o)
+    (λ rest. Account.by-track-ranges track times tags lent (countOf r) after κs (record { answer = o .same; list = h .1 }) rest)
+    (follows s k)
+follows {c} s (by-common-ranges times tags lent r after κs h k) =
+    let x = commonRangesResult (length (now lent)) (headIn (c .head)) (c .times) (c .tags) in
+    let o : Reports (rangeCount x) r = rw (h .0) (report-read (rangeCount x)) in
+    one (reporting r (record { answer = countOf r; after = after }) o)
+    (λ rest. Account.by-common-ranges times tags lent (countOf r) after κs (record { answer = o .same; list = h .1 }) rest)
+    (follows s k)
+
+-- ---- THE THEOREM
+
+pub every-exported-history : {kinds : List ℕ} {ms : List Told} {t : Held} → History kinds ms t → Claim kinds ms t
+every-exported-history {kinds} {ms} {t} (from lent times tags r ts gs κs h accepted k) =
+    let o = creation kinds r (h .0) in
+    let f = follows (o .sound) k in
+    let done : answerOf (r .answer) ≡ Said.Done = ap (λ (n : ℕ). answerOf (record { refusal = n; count = r .answer .count })) accepted in
+    let claim = every-history (Account.from lent times tags (record { answer = answerOf (r .answer); head = headIn (r .head) }) ts gs κs (o .same, h .1) done (f .steps)) in
+    record {
+      claim = claim;
+      numbers = f .numbers ∙ ap (map (λ (e : Entry). resultNumber (e .result))) (claim .results);
+      buffer = λ i. record {
+        head = (sym (f .laid) ∙ ap (λ (s : Lent). headOut (s .head)) (claim .state)) i;
+        times = claim .state i .times;
+        tags = claim .state i .tags;
+      };
+    }
+
+-- ---- it is not vacuous: every list of exported calls on every buffer created has a history
+
+-- a list lent by some reference, and some lifetime
+abbrev lend : {A : Type 0} → A → RefT A
+lend d = record { ptr = (0, 0); name = 0; now = d }
+
+abbrev two : Lfts 2
+two = ([], ([], tt))
+
+abbrev three : Lfts 3
+three = ([], ([], ([], tt)))
+
+record Onward (c : Held) (asks : List Ask) : Type 0 where
+  pub told : List Told
+  pub same : map (λ (m : Told). m .ask) told ≡ asks
+  pub last : Held
+  pub steps : From c told last
+
+-- one call, then the others
+first : {c d : Held} {a : Ask} {g : Got a} {asks : List Ask}
+    → ((ms : List Told) (t : Held) → From d ms t → From c (record { ask = a; got = g } ∷ ms) t)
+    → Onward d asks → Onward c (a ∷ asks)
+first {a = a} step o = record {
+  told = _;
+  same = ap (λ (l : List Ask). a ∷ l) (o .same);
+  last = o .last;
+  steps = step (o .told) (o .last) (o .steps);
+}
+
+-- the buffer under another head
+abbrev under : Held → Answered → Held
+under c r = record { head = r .head; times = c .times; tags = c .tags }
+
+onward : (c : Held) (asks : List Ask) → Onward c asks
+onward c [] = record { told = []; same = refl; last = c; steps = none }
+onward c (append f l ∷ asks) =
+    let x = appendFlat (length l) f (c .head) (c .times) (c .tags) in
+    let r = outcomeOut (c .head) x in
+    let d : Held = record { head = r .head; times = timesAfter x (c .times); tags = tagsAfter x (c .tags) } in
+    first {d = d} (λ ms t k. by-append f (lend (c .times)) (lend (c .tags)) (lend l) r (d .times) (d .tags) (listAfter x l) three (refl, (refl, (refl, refl))) k) (onward d asks)
+onward c (remove start end l ∷ asks) =
+    let x = removeFlat (length l) start end (c .head) (c .times) (c .tags) in
+    let r = outcomeOut (c .head) x in
+    let d : Held = record { head = r .head; times = timesAfter x (c .times); tags = tagsAfter x (c .tags) } in
+    first {d = d} (λ ms t k. by-remove start end (lend (c .times)) (lend (c .tags)) (lend l) r (d .times) (d .tags) (listAfter x l) three (refl, (refl, (refl, refl))) k) (onward d asks)
+onward c (abort ∷ asks) =
+    let r = handedBack (c .head) (abortAnswer (headIn (c .head)) (c .times) (c .tags)) in
+    first {d = under c r} (λ ms t k. by-abort (lend (c .times)) (lend (c .tags)) r two refl k) (onward (under c r) asks)
+onward c (setSegments ∷ asks) =
+    let r = handedBack (c .head) (modeAnswer Segments (headIn (c .head)) (c .times) (c .tags)) in
+    first {d = under c r} (λ ms t k. by-segments (lend (c .times)) (lend (c .tags)) r two refl k) (onward (under c r) asks)
+onward c (setSequence ∷ asks) =
+    let r = handedBack (c .head) (modeAnswer Sequence (headIn (c .head)) (c .times) (c .tags)) in
+    first {d = under c r} (λ ms t k. by-sequence (lend (c .times)) (lend (c .tags)) r two refl k) (onward (under c r) asks)
+onward c (setOffset x f ∷ asks) =
+    let r = handedBack (c .head) (offsetAnswer x (headIn (c .head)) (c .times) (c .tags)) in
+    first {d = under c r} (λ ms t k. by-offset x f (lend (c .times)) (lend (c .tags)) r two refl k) (onward (under c r) asks)
+onward c (setWindowStart x f ∷ asks) =
+    let r = handedBack (c .head) (windowStartAnswer x (headIn (c .head)) (c .times) (c .tags)) in
+    first {d = under c r} (λ ms t k. by-window-start x f (lend (c .times)) (lend (c .tags)) r two refl k) (onward (under c r) asks)
+onward c (setWindowEnd x f ∷ asks) =
+    let r = handedBack (c .head) (windowEndAnswer x (headIn (c .head)) (c .times) (c .tags)) in
+    first {d = under c r} (λ ms t k. by-window-end x f (lend (c .times)) (lend (c .tags)) r two refl k) (onward (under c r) asks)
+onward c (readSettings ∷ asks) =
+    let r = readingOut (settingsAnswer (headIn (c .head)) (c .times) (c .tags)) in
+    first {d = c} (λ ms t k. by-reading (lend (c .times)) (lend (c .tags)) r two refl k) (onward c asks)
+onward c (trackRanges track l ∷ asks) =
+    let x = trackRangesResult (length l) track (headIn (c .head)) (c .times) (c .tags) in
+    first {d = c} (λ ms t k. by-track-ranges track (lend (c .times)) (lend (c .tags)) (lend l) (reportOut (rangeCount x)) (rangesAfter x l) three (refl, refl) k) (onward c asks)
+onward c (commonRanges l ∷ asks) =
+    let x = commonRangesResult (length l) (headIn (c .head)) (c .times) (c .tags) in
+    first {d = c} (λ ms t k. by-common-ranges (lend (c .times)) (lend (c .tags)) (lend l) (reportOut (rangeCount x)) (rangesAfter x l) three (refl, refl) k) (onward c asks)
+
+-- whatever the arrays held before the creation
+pub some-exported-history : (kinds : List ℕ) (ts : List (List ℤ)) (gs : List (List ℕ)) (asks : List Ask) → create kinds ≡ done (fresh kinds) → Happens kinds asks
+unfolding createAnswer
+some-exported-history kinds ts gs asks made =
+    let r = createdOut (createAnswer kinds) in
+    let o = onward (record { head = r .head; times = timesCreated (create kinds) ts; tags = tagsCreated (create kinds) gs }) asks in
+    record {
+      told = o .told;
+      same = o .same;
+      last = o .last;
+      history = from (lend kinds) (lend ts) (lend gs) r (timesCreated (create kinds) ts) (tagsCreated (create kinds) gs) three (refl, (refl, refl))
+          (ap (λ (x : Result Buffer). createdOut (changed zeroHead x) .answer .refusal) made) (o .steps);
+    }
+
+-- ---- it has no hidden door
+
+-- no exported call asks anything of its caller
+pub exported-free : (κs : Lfts 2) (λs : Lfts 3) (c : FlatHead) (f : FlatOffered) (x y : Float) (track : ℕ) (kinds : RefT (List ℕ))
+    (times : RefT (List (List ℤ))) (tags : RefT (List (List ℕ))) (fates : RefT (List (List ℕ))) (list : RefT (List (List ℤ)))
+    → Create.Asked λs (kinds, (times, (tags, tt))) × Append.Asked λs (c, (f, (times, (tags, (fates, tt)))))
+    × Remove.Asked λs (c, (x, (y, (times, (tags, (fates, tt)))))) × Abort.Asked κs (c, (times, (tags, tt)))
+    × SetSegments.Asked κs (c, (times, (tags, tt))) × SetSequence.Asked κs (c, (times, (tags, tt)))
+    × SetOffset.Asked κs (c, (times, (tags, (x, tt)))) × SetWindowStart.Asked κs (c, (times, (tags, (x, tt))))
+    × SetWindowEnd.Asked κs (c, (times, (tags, (x, tt)))) × ReadSettings.Asked κs (c, (times, (tags, tt)))
+    × TrackRanges.Asked λs (c, (times, (tags, (track, (list, tt))))) × CommonRanges.Asked λs (c, (times, (tags, (list, tt))))
+exported-free κs λs c f x y track kinds times tags fates list = (tt, tt, tt, tt, tt, tt, tt, tt, tt, tt, tt, tt)
+
+-- the running code meets the contracts of which a history is made
+pub exported-code-meets : {M : Type 1}
+    → CreateSays.statement M × AppendSays.statement M × RemoveSays.statement M × AbortSays.statement M
+    × SetSegmentsSays.statement M × SetSequenceSays.statement M × SetOffsetSays.statement M × SetWindowStartSays.statement M
+    × SetWindowEndSays.statement M × ReadSettingsSays.statement M × TrackRangesSays.statement M × CommonRangesSays.statement M
+exported-code-meets = (CreateMet.met, AppendMet.met, RemoveMet.met, AbortMet.met, SetSegmentsMet.met, SetSequenceMet.met, SetOffsetMet.met, SetWindowStartMet.met, SetWindowEndMet.met, ReadSettingsMet.met, TrackRangesMet.met, CommonRangesMet.met)

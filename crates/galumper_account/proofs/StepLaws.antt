@@ -1,0 +1,73 @@
+-- Each exported call, by its own contract, on a sound head: what it hands back reads as what the library's call answers there.
+use mathlib.Core.Path.{_≡_, sym, subst}
+use mathlib.Core.List.{List}
+use Prim.Native.Nat.{ℕ}
+use lib.Dec.{T}
+use lib.IntN.{ℤ}
+use lib.Ieee.{Float, binary64, fits}
+use Rattle.seconds.proofs.NumberLaws.{Number, converts-number, end-number}
+use Rattle.buffer_state.specs.declared.Mode.{Mode}
+use Rattle.buffer_state.specs.Answers.{changed, createAnswer, abortAnswer, modeAnswer, offsetAnswer, windowStartAnswer, windowEndAnswer, counted, appendResult, removeResult}
+use Rattle.buffer_state.specs.Append.{append}
+use Rattle.buffer_state.specs.Buffer.{Buffer}
+use Rattle.buffer_state.specs.Lent.{onLent}
+use Rattle.buffer_state.specs.Refusals.{Result, done}
+use Rattle.buffer_state.specs.Remove.{remove}
+use Rattle.buffer_state.specs.Settings.{aborted, modeSet, offsetSet, windowStartSet, windowEndSet}
+use Rattle.buffer_laws.proofs.KeptLaws.{Keeps, SettingKeeps, append-keeps, remove-keeps, abort-keeps, mode-keeps, offset-keeps, window-start-keeps, window-end-keeps}
+use Rattle.galumper.specs.declared.Answered.{Answered}
+use Rattle.galumper.specs.declared.FlatHead.{FlatHead}
+use Rattle.galumper.specs.declared.FlatOffered.{FlatOffered}
+use Rattle.galumper.specs.Calls.{outcomeOut, handedBack, createdOut, appendFlat, removeFlat}
+use Rattle.galumper.specs.Flat.{headIn, offeredIn}
+use Rattle.galumper_account.proofs.ReadLaws.{Sound, Counts, outcome-read, Changes, setting-read, made-numbers, created-read, on-outcome, on-setting}
+
+pub creation : (kinds : List ℕ) (r : Answered) → r ≡ createdOut (createAnswer kinds) → Changes (createAnswer kinds) r
+unfolding createAnswer
+creation kinds r e = subst (Changes (createAnswer kinds)) (sym e) (created-read kinds)
+
+module _ (c : FlatHead) (ts : List (List ℤ)) (gs : List (List ℕ)) (s : Sound c) (r : Answered) where
+  -- ---- append and remove
+
+  pub appending : (lent : ℕ) (f : FlatOffered) → r ≡ outcomeOut c (appendFlat lent f c ts gs) → Counts (counted (headIn c) (appendFlat lent f c ts gs)) r
+  unfolding appendResult
+  appending lent f e =
+      let x = appendFlat lent f c ts gs in
+      subst (Counts (counted (headIn c) x)) (sym e)
+      (outcome-read c s x (on-outcome (headIn c) ts gs (s .numbers) (append lent (offeredIn f)) (append-keeps Number made-numbers lent (offeredIn f))))
+
+  pub removing : (lent : ℕ) (start end : Float) → r ≡ outcomeOut c (removeFlat lent start end c ts gs) → Counts (counted (headIn c) (removeFlat lent start end c ts gs)) r
+  unfolding removeResult
+  removing lent start end e =
+      let x = removeFlat lent start end c ts gs in
+      subst (Counts (counted (headIn c) x)) (sym e)
+      (outcome-read c s x (on-outcome (headIn c) ts gs (s .numbers) (remove lent start end) (remove-keeps Number made-numbers lent start end)))
+
+  -- ---- abort and the setters
+
+  setting : (call : Buffer → Result Buffer) → ((b : Buffer) → Keeps Number (b .settings) → SettingKeeps Number (call b))
+      → r ≡ handedBack c (changed (headIn c) (onLent call (headIn c) ts gs)) → Changes (changed (headIn c) (onLent call (headIn c) ts gs)) r
+  setting call keeps e =
+      let x = onLent call (headIn c) ts gs in
+      subst (Changes (changed (headIn c) x)) (sym e) (setting-read c s x (on-setting (headIn c) ts gs (s .numbers) call keeps))
+
+  pub aborting : r ≡ handedBack c (abortAnswer (headIn c) ts gs) → Changes (abortAnswer (headIn c) ts gs) r
+  unfolding abortAnswer
+  aborting = setting (λ (b : Buffer). done (aborted b)) (abort-keeps Number made-numbers)
+
+  pub mode-setting : (m : Mode) → r ≡ handedBack c (modeAnswer m (headIn c) ts gs) → Changes (modeAnswer m (headIn c) ts gs) r
+  unfolding modeAnswer
+  mode-setting m = setting (λ (b : Buffer). done (modeSet m b)) (mode-keeps Number made-numbers m)
+
+  module _ (x : Float) (f : T (fits binary64 x)) where
+    pub offset-setting : r ≡ handedBack c (offsetAnswer x (headIn c) ts gs) → Changes (offsetAnswer x (headIn c) ts gs) r
+    unfolding offsetAnswer
+    offset-setting = setting (offsetSet x) (offset-keeps Number made-numbers x (converts-number x f))
+
+    pub window-start-setting : r ≡ handedBack c (windowStartAnswer x (headIn c) ts gs) → Changes (windowStartAnswer x (headIn c) ts gs) r
+    unfolding windowStartAnswer
+    window-start-setting = setting (windowStartSet x) (window-start-keeps Number made-numbers x (converts-number x f))
+
+    pub window-end-setting : r ≡ handedBack c (windowEndAnswer x (headIn c) ts gs) → Changes (windowEndAnswer x (headIn c) ts gs) r
+    unfolding windowEndAnswer
+    window-end-setting = setting (windowEndSet x) (window-end-keeps Number made-numbers x (end-number x f))

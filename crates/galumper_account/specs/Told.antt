@@ -1,0 +1,125 @@
+-- An exported call as a program makes it, and what it answers, in numbers; and the same call in the words of the account (crate account).
+use mathlib.Core.Bool.{cond}
+use mathlib.Core.List.{List, [], _∷_}
+use Prim.Native.Nat.{ℕ, _-_}
+use lib.Dec.{T, eqb}
+use lib.IntN.{ℤ}
+use lib.Ieee.{Float, binary64, fits}
+use lib.ListN.{getD}
+use Rattle.buffer_state.specs.declared.Answer.{Answer}
+use Rattle.buffer_state.specs.declared.Answer.the-variants as Answer
+use Rattle.buffer_state.specs.declared.Count.{Count}
+use Rattle.buffer_state.specs.declared.Count.the-variants as Count
+use Rattle.buffer_state.specs.declared.Mode.the-variants.{Segments, Sequence}
+use Rattle.buffer_state.specs.declared.Read.{Read}
+use Rattle.buffer_state.specs.declared.Read.the-variants as Read
+use Rattle.buffer_state.specs.declared.Refusal.{Refusal}
+use Rattle.buffer_state.specs.declared.Refusal.the-variants.{IllFormed, ShortFates, NoTrack, FrameLimits, Seconds, Order, ResultLimits, Full, LastNumber, ShortRanges, Kinds}
+use Rattle.account.specs.Made as Account
+use Rattle.account.specs.Made.{Given, Back, Made}
+use Rattle.galumper.specs.declared.FlatAnswer.{FlatAnswer}
+use Rattle.galumper.specs.declared.FlatOffered.{FlatOffered}
+use Rattle.galumper.specs.declared.Reading.{Reading}
+use Rattle.galumper.specs.Flat.{offeredIn}
+
+-- ---- a call, and what it answers
+
+-- Every argument except the buffer; of a lent list, what it holds. A double that is kept is one of the format: a program can pass no
+-- other.
+pub data Ask : Type 0 where
+  append : FlatOffered → List (List ℕ) → Ask
+  remove : Float → Float → List (List ℕ) → Ask
+  abort : Ask
+  setSegments : Ask
+  setSequence : Ask
+  setOffset : (x : Float) → T (fits binary64 x) → Ask
+  setWindowStart : (x : Float) → T (fits binary64 x) → Ask
+  setWindowEnd : (x : Float) → T (fits binary64 x) → Ask
+  readSettings : Ask
+  trackRanges : ℕ → List (List ℤ) → Ask
+  commonRanges : List (List ℤ) → Ask
+
+-- an answer that counts lines or ranges, and the lent list afterwards
+pub record Filled (A : Type 0) : Type 0 where
+  pub answer : FlatAnswer
+  pub after : List A
+
+abbrev pub Got : Ask → Type 0
+Got (append f lent) = Filled (List ℕ)
+Got (remove start end lent) = Filled (List ℕ)
+Got abort = FlatAnswer
+Got setSegments = FlatAnswer
+Got setSequence = FlatAnswer
+Got (setOffset x f) = FlatAnswer
+Got (setWindowStart x f) = FlatAnswer
+Got (setWindowEnd x f) = FlatAnswer
+Got readSettings = Reading
+Got (trackRanges track lent) = Filled (List ℤ)
+Got (commonRanges lent) = Filled (List ℤ)
+
+pub record Told : Type 0 where
+  pub ask : Ask
+  pub got : Got ask
+
+-- the refusal number that a call answered, 0 where it was done
+abbrev pub numberIn : (a : Ask) → Got a → ℕ
+numberIn (append f lent) g = g .answer .refusal
+numberIn (remove start end lent) g = g .answer .refusal
+numberIn abort g = g .refusal
+numberIn setSegments g = g .refusal
+numberIn setSequence g = g .refusal
+numberIn (setOffset x f) g = g .refusal
+numberIn (setWindowStart x f) g = g .refusal
+numberIn (setWindowEnd x f) g = g .refusal
+numberIn readSettings g = g .refusal
+numberIn (trackRanges track lent) g = g .answer .refusal
+numberIn (commonRanges lent) g = g .answer .refusal
+
+-- ---- the same in the account's words
+
+-- The refusal of a number of the table. That the number is the table's, and not one that is only taken for it, is a part of the claim.
+abbrev pub refusalOf : ℕ → Refusal
+refusalOf n =
+    getD (IllFormed ∷ ShortFates ∷ NoTrack ∷ FrameLimits ∷ Seconds ∷ Order ∷ ResultLimits ∷ Full ∷ LastNumber ∷ ShortRanges ∷ Kinds ∷ [])
+    (n - 1) IllFormed
+
+abbrev pub countOf : FlatAnswer → Count
+countOf a = cond (eqb (a .refusal) 0) (Count.Done (a .count)) (Count.Refused (refusalOf (a .refusal)))
+
+abbrev pub answerOf : FlatAnswer → Answer
+answerOf a = cond (eqb (a .refusal) 0) Answer.Done (Answer.Refused (refusalOf (a .refusal)))
+
+abbrev pub readOf : Reading → Read
+readOf r =
+    cond (eqb (r .refusal) 0)
+    (cond (eqb (r .bounded) 1) (Read.Bounded (r .offset) (r .start) (r .end)) (Read.Unbounded (r .offset) (r .start)))
+    (Read.Refused (refusalOf (r .refusal)))
+
+abbrev pub given : Ask → Given
+given (append f lent) = Account.append (offeredIn f) lent
+given (remove start end lent) = Account.remove start end lent
+given abort = Account.abort
+given setSegments = Account.setMode Segments
+given setSequence = Account.setMode Sequence
+given (setOffset x f) = Account.setOffset x
+given (setWindowStart x f) = Account.setWindowStart x
+given (setWindowEnd x f) = Account.setWindowEnd x
+given readSettings = Account.readSettings
+given (trackRanges track lent) = Account.trackRanges track lent
+given (commonRanges lent) = Account.commonRanges lent
+
+abbrev pub back : (a : Ask) → Got a → Back (given a)
+back (append f lent) g = record { answer = countOf (g .answer); after = g .after }
+back (remove start end lent) g = record { answer = countOf (g .answer); after = g .after }
+back abort g = answerOf g
+back setSegments g = answerOf g
+back setSequence g = answerOf g
+back (setOffset x f) g = answerOf g
+back (setWindowStart x f) g = answerOf g
+back (setWindowEnd x f) g = answerOf g
+back readSettings g = readOf g
+back (trackRanges track lent) g = record { answer = countOf (g .answer); after = g .after }
+back (commonRanges lent) g = record { answer = countOf (g .answer); after = g .after }
+
+abbrev pub made : Told → Made
+made t = record { given = given (t .ask); back = back (t .ask) (t .got) }

@@ -1,0 +1,25 @@
+// Writes where each field of each struct stands, and how many bytes the struct has.
+#include "galumper.h"
+
+#include <stdio.h>
+
+#define NAME(type) printf(#type ": ")
+#define AT(type, field) printf(#field " %zu, ", offsetof(galumper_##type, field))
+#define BYTES(type) printf("%zu bytes\n", sizeof(galumper_##type))
+
+int main(void) {
+    NAME(track), AT(track, kind), AT(track, known), AT(track, need), AT(track, duration), AT(track, dts), AT(track, end);
+    BYTES(track);
+    NAME(group), AT(group, begun), AT(group, start), AT(group, end), BYTES(group);
+    NAME(setting), AT(setting, bits), AT(setting, micros), BYTES(setting);
+    NAME(settings), AT(settings, offset), AT(settings, start), AT(settings, bounded), AT(settings, end), AT(settings, limit);
+    BYTES(settings);
+    NAME(head), AT(head, tracks), AT(head, ntracks), AT(head, nframes), AT(head, mode), AT(head, last), AT(head, group);
+    AT(head, settings), BYTES(head);
+    NAME(buffer), AT(buffer, head), AT(buffer, times), AT(buffer, tags), BYTES(buffer);
+    NAME(offered), AT(offered, track), AT(offered, flagged), AT(offered, duration), AT(offered, pts), AT(offered, dts);
+    BYTES(offered);
+    NAME(fate), AT(fate, number), AT(fate, cause), BYTES(fate);
+    NAME(range), AT(range, start), AT(range, end), BYTES(range);
+    return 0;
+}

@@ -1,0 +1,10 @@
+//! What programs in C and C++ meet: the programs of `docs/EMBEDDING.md`, and the header.
+
+mod calls;
+mod compiler;
+mod flags;
+mod header;
+mod held;
+mod mismatch;
+mod names;
+mod programs;
