@@ -586,7 +586,17 @@ pub extern "C" fn galumper_lent_abort(
     changed_out(c, answer, k)
 }
 
-// Set the mode: a call for each, so that no other can be passed.
+fn with_mode(c: FlatHead, times: &[[i64; 2]; 1024], tags: &[[u32; 4]; 1024], mode: Mode) -> Answered
+    ensures { λ r. ⌜ r ≡ handedBack c (modeAnswer mode (headIn c) (now (times .entry)) (now (tags .entry))) ⌝ }
+{
+    let h = head_in(c);
+    let r = settings::set_mode(h, times, tags, mode);
+    let answer = r.answer;
+    let k = r.head;
+    changed_out(c, answer, k)
+}
+
+// A call for each mode, so that no other can be passed.
 #[no_mangle]
 pub extern "C" fn galumper_lent_set_segments(
     c: FlatHead,
@@ -595,11 +605,7 @@ pub extern "C" fn galumper_lent_set_segments(
 ) -> Answered
     ensures { λ r. ⌜ r ≡ handedBack c (modeAnswer Segments (headIn c) (now (times .entry)) (now (tags .entry))) ⌝ }
 {
-    let h = head_in(c);
-    let r = settings::set_mode(h, times, tags, Mode::Segments);
-    let answer = r.answer;
-    let k = r.head;
-    changed_out(c, answer, k)
+    with_mode(c, times, tags, Mode::Segments)
 }
 
 #[no_mangle]
@@ -610,11 +616,7 @@ pub extern "C" fn galumper_lent_set_sequence(
 ) -> Answered
     ensures { λ r. ⌜ r ≡ handedBack c (modeAnswer Sequence (headIn c) (now (times .entry)) (now (tags .entry))) ⌝ }
 {
-    let h = head_in(c);
-    let r = settings::set_mode(h, times, tags, Mode::Sequence);
-    let answer = r.answer;
-    let k = r.head;
-    changed_out(c, answer, k)
+    with_mode(c, times, tags, Mode::Sequence)
 }
 
 #[no_mangle]

@@ -132,6 +132,12 @@ pub struct Buffer {
 /// The bytes of a buffer.
 pub const SIZE: usize = size_of::<Buffer>();
 
+// No padding: each struct has the bytes of its numbers.
+const _: () = assert!(size_of::<Track>() == 1 + 1 + 2 + 4 + 2 * 8);
+const _: () = assert!(size_of::<Group>() == 3 * 8 && size_of::<Settings>() == 7 * 8);
+const _: () = assert!(size_of::<Head>() == TRACKS * 24 + 2 * 8 + 2 * 4 + 24 + 56);
+const _: () = assert!(SIZE == size_of::<Head>() + PLACES * (2 * 8 + 4 * 4));
+
 impl Buffer {
     /// A zeroed buffer, made where it stays. It has no track, so that every call refuses it.
     pub(crate) fn zeroed() -> Box<Self> {
