@@ -269,7 +269,8 @@ static inline galumper_answer galumper_append(galumper_buffer *buffer, galumper_
 
 /* Removes, on each track, the frames that begin from `start` up to the first random access point at or after `end` (in seconds), and
  * the frames that depend on them; where there is no such point, or `end` is plus infinity, all from `start` on. Fate lines are written as
- * by an append. Where the frame last appended to a track goes, every track waits for a random access point. Refused 1, 2, 5, 6. */
+ * by an append. Where a frame with its track's last decode timestamp goes, every track waits for a random access point. Refused 1, 2, 5,
+ * 6. */
 static inline galumper_answer galumper_remove(galumper_buffer *buffer, double start, double end, galumper_fate *fates, size_t lines) {
     galumper_fate none;
     return galumper_kept(buffer, galumper_lent_remove(buffer->head, start, end, buffer->times, buffer->tags, lines ? fates : &none, lines));

@@ -69,8 +69,9 @@ impl Buffer {
 
     /// Removes, on each track, the frames that begin from `start` up to the first random access
     /// point at or after `end` (in seconds), and the frames that depend on them; where there is no
-    /// such point, or `end` is plus infinity, all from `start` on. Where the frame last appended to
-    /// a track goes, every track waits for a random access point. Gives the count of fate lines.
+    /// such point, or `end` is plus infinity, all from `start` on. Where a frame with its track's
+    /// last decode timestamp goes, every track waits for a random access point. Gives the count of
+    /// fate lines.
     ///
     /// # Errors
     ///
