@@ -182,13 +182,13 @@ every-history {kinds} {ms} {t} (from lent times tags r ts gs κs h accepted k) =
 -- ---- it is not vacuous: every list of calls on every buffer created has a history
 
 -- a list lent by some reference, and some lifetime
-abbrev lend : {A : Type 0} → A → RefT A
+abbrev pub lend : {A : Type 0} → A → RefT A
 lend d = record { ptr = (0, 0); name = 0; now = d }
 
-abbrev two : Lfts 2
+abbrev pub two : Lfts 2
 two = ([], ([], tt))
 
-abbrev three : Lfts 3
+abbrev pub three : Lfts 3
 three = ([], ([], ([], tt)))
 
 record Onward (s : Lent) (gs : List Given) : Type 0 where

@@ -26,7 +26,7 @@ use Rattle.buffer_state.specs.Run.{Answer, Entry}
 use Rattle.buffer_state.specs.Settings.{create}
 use Rattle.account.specs.Made.{Listed, linesOf, rangesOf, changeOf, readingOf, resultOf, calls, entries}
 use Rattle.account.specs.History as Account
-use Rattle.account.proofs.Claim.{every-history}
+use Rattle.account.proofs.Claim.{every-history, lend, two, three}
 use Rattle.galumper.specs.declared.Answered.{Answered}
 use Rattle.galumper.specs.declared.FlatAnswer.{FlatAnswer}
 use Rattle.galumper.specs.declared.FlatHead.{FlatHead}
@@ -206,16 +206,6 @@ every-exported-history {kinds} {ms} {t} (from lent times tags r ts gs κs h acce
     }
 
 -- ---- it is not vacuous: every list of exported calls on every buffer created has a history
-
--- a list lent by some reference, and some lifetime
-abbrev lend : {A : Type 0} → A → RefT A
-lend d = record { ptr = (0, 0); name = 0; now = d }
-
-abbrev two : Lfts 2
-two = ([], ([], tt))
-
-abbrev three : Lfts 3
-three = ([], ([], ([], tt)))
 
 record Onward (c : Held) (asks : List Ask) : Type 0 where
   pub told : List Told
