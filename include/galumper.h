@@ -5,8 +5,9 @@
  * library keeps nothing and allocates nothing.
  *
  * Any bits may be handed in. A buffer that is not well-formed has the call refused 1; an offered frame whose flag is neither 0
- * nor 1 has it refused 4. What the caller owes is that each list has the places that its length says and lies outside the buffer,
- * and that nothing else touches buffer and list during the call. A list of length 0 may be a null pointer.
+ * nor 1 has it refused 4; a segment that is not well-formed has it refused 12. What the caller owes is that each list and each
+ * segment has the places that its length says, that a list lies outside the buffer and the segment, and that nothing else touches
+ * what is lent during the call. A list or a segment of length 0 may be a null pointer.
  *
  * The library has no state of its own: different buffers may be used by different threads at once; one buffer is changed by one
  * thread at a time, and calls that take it as const may run side by side.
@@ -26,10 +27,10 @@ extern "C" {
 #endif
 
 /* The version of this header, of its library and of the Rust crate. */
-#define GALUMPER_VERSION "0.2.0"
+#define GALUMPER_VERSION "0.3.0"
 
 /* By these two a library belongs to this header: the number of its layout and functions, and the bytes of a galumper_buffer. */
-#define GALUMPER_ABI 2
+#define GALUMPER_ABI 3
 #define GALUMPER_SIZE 32968
 
 /* The places of the store over all tracks. */
@@ -64,14 +65,16 @@ enum galumper_refusal {
     GALUMPER_ILL_FORMED = 1,    /* the buffer is not well-formed */
     GALUMPER_SHORT_FATES = 2,   /* a fate list of fewer than 1,024 lines */
     GALUMPER_NO_TRACK = 3,      /* a track that the buffer does not have */
-    GALUMPER_FRAME_LIMITS = 4,  /* a field of the offered frame outside its limit */
+    GALUMPER_FRAME_LIMITS = 4,  /* a field of a frame, offered or read from a segment, outside its limit, or such a timescale */
     GALUMPER_SECONDS = 5,       /* a double that is NaN, infinite where it may not be, or beyond 1,000,000 either way */
     GALUMPER_ORDER = 6,         /* a window or a removal whose start does not come before its end, or is negative: in microseconds */
     GALUMPER_RESULT_LIMITS = 7, /* a time that would lie beyond 4,000,000,000,000 either way, with the timestamp offset added */
     GALUMPER_FULL = 8,          /* no place for the frame, counting those that its append frees; a dropped frame needs none */
     GALUMPER_LAST_NUMBER = 9,   /* no frame number left to give: the last is 4,294,967,295 */
-    GALUMPER_SHORT_RANGES = 10, /* more ranges than the lent list has places */
+    GALUMPER_SHORT_LIST = 10,   /* more ranges or frames than the lent list has places */
     GALUMPER_KINDS = 11,        /* creation with no track, more than four, or an unknown kind */
+    GALUMPER_MALFORMED = 12,    /* a segment with a box that overruns, is too short, has size 0 or an unknown version; or with a movie
+                                 * fragment, a track fragment's header or a decode time missing, doubled or after a run */
     /* This header's own answer to a creation, and none of the library's: header and library do not belong together. */
     GALUMPER_OTHER_LAYOUT = 255
 };
@@ -163,8 +166,28 @@ typedef struct galumper_range {
     int64_t end;
 } galumper_range;
 
-/* What a call answers: an enum galumper_refusal, and how many lines or ranges it wrote to the lent list. Places of the list past
- * these are not touched. */
+/* The track of a segment that is read. All but `track` stands in the initialization segment, in its boxes tkhd, mdhd and trex. */
+typedef struct galumper_segment_track {
+    uint32_t id;             /* the track's ID in the segment */
+    uint32_t track;          /* the track number that its frames shall carry; it is not judged here */
+    uint32_t timescale;      /* units of its media times in a second, from 1 to 1,000,000 */
+    uint32_t duration;       /* of a sample for which the segment names none, in these units */
+    uint32_t size;           /* likewise, in bytes */
+    uint32_t flags;          /* likewise */
+} galumper_segment_track;
+
+/* A coded frame with its size, as one row of numbers. The times of a row that was listed are within the limits of an append. */
+typedef struct galumper_listed_frame {
+    int64_t track;           /* the track number that was asked for */
+    int64_t pts;
+    int64_t dts;
+    int64_t duration;
+    int64_t flagged;         /* 1: a random access point; else 0 */
+    int64_t size;            /* bytes of the frame */
+} galumper_listed_frame;
+
+/* What a call answers: an enum galumper_refusal, and how many lines, ranges or frames it wrote to the lent list. Places of the list
+ * past these are not touched. */
 typedef struct galumper_answer {
     uint32_t refusal;
     size_t count;
@@ -213,6 +236,8 @@ galumper_answer galumper_lent_track_ranges(galumper_head head, const int64_t tim
                                            size_t places);
 galumper_answer galumper_lent_common_ranges(galumper_head head, const int64_t times[GALUMPER_PLACES][2],
                                             const uint32_t tags[GALUMPER_PLACES][4], galumper_range *ranges, size_t places);
+galumper_answer galumper_lent_list_segment(galumper_segment_track of, const uint8_t *segment, size_t length,
+                                           galumper_listed_frame *frames, size_t places);
 
 /* A compiler that lays a struct out otherwise than the library reads it does not take this header. */
 #ifdef __cplusplus
@@ -230,6 +255,7 @@ GALUMPER_LAID_OUT(sizeof(galumper_setting) == 16);
 GALUMPER_LAID_OUT(sizeof(galumper_settings) == 56 && offsetof(galumper_settings, end) == 40);
 GALUMPER_LAID_OUT(sizeof(galumper_offered) == 32 && offsetof(galumper_offered, duration) == 8);
 GALUMPER_LAID_OUT(sizeof(galumper_fate) == 8 && sizeof(galumper_range) == 16);
+GALUMPER_LAID_OUT(sizeof(galumper_segment_track) == 24 && sizeof(galumper_listed_frame) == 48);
 GALUMPER_LAID_OUT(sizeof(galumper_answer) == 16 && offsetof(galumper_answer, count) == 8);
 GALUMPER_LAID_OUT(sizeof(galumper_answered) == 216);
 GALUMPER_LAID_OUT(sizeof(galumper_reading) == 32 && offsetof(galumper_reading, offset) == 8);
@@ -245,7 +271,8 @@ static inline galumper_answer galumper_kept(galumper_buffer *buffer, galumper_an
 
 /* ---- the calls */
 
-/* Whether the library that is linked belongs to this header. A creation asks it too; a program that loads buffers asks it first. */
+/* Whether the library that is linked belongs to this header. A creation asks it too; a program that loads buffers, or lists a segment
+ * before it creates one, asks it first. */
 static inline bool galumper_matches(void) {
     return galumper_abi() == GALUMPER_ABI && galumper_size() == GALUMPER_SIZE;
 }
@@ -333,6 +360,16 @@ static inline galumper_answer galumper_common_ranges(const galumper_buffer *buff
     return galumper_lent_common_ranges(buffer->head, buffer->times, buffer->tags, places ? ranges : &none, places);
 }
 
+/* Lists a track's frames with their sizes, in file order, from the one movie fragment of a segment, fragmented MP4 by ISO/IEC 14496-12;
+ * a segment that has none of this track lists nothing. A media time is converted to microseconds and rounded down, also below zero; a
+ * frame's end is converted the same way, and its duration is the difference. Refused 12, 4, 10. */
+static inline galumper_answer galumper_list_segment(galumper_segment_track of, const uint8_t *segment, size_t length,
+                                                    galumper_listed_frame *frames, size_t places) {
+    const uint8_t empty = 0;
+    galumper_listed_frame none;
+    return galumper_lent_list_segment(of, length ? segment : &empty, length, places ? frames : &none, places);
+}
+
 /* ---- what was answered, read */
 
 /* Whether an instant is in one of the first `count` ranges of a list. */
@@ -352,14 +389,15 @@ static inline const char *galumper_refusal_name(uint32_t refusal) {
     case GALUMPER_ILL_FORMED: return "the buffer is not well-formed";
     case GALUMPER_SHORT_FATES: return "the fate list has fewer than 1,024 lines";
     case GALUMPER_NO_TRACK: return "the buffer has no such track";
-    case GALUMPER_FRAME_LIMITS: return "the offered frame is outside the limits";
+    case GALUMPER_FRAME_LIMITS: return "a frame or timescale is outside the limits";
     case GALUMPER_SECONDS: return "the seconds do not convert to microseconds";
     case GALUMPER_ORDER: return "the start is negative or not before the end";
     case GALUMPER_RESULT_LIMITS: return "a time would leave the limits";
     case GALUMPER_FULL: return "the store is full";
     case GALUMPER_LAST_NUMBER: return "the last frame number is given";
-    case GALUMPER_SHORT_RANGES: return "the range list has too few places";
+    case GALUMPER_SHORT_LIST: return "the list has too few places";
     case GALUMPER_KINDS: return "no track, more than four, or an unknown kind";
+    case GALUMPER_MALFORMED: return "the segment is not well-formed";
     case GALUMPER_OTHER_LAYOUT: return "header and library do not belong together";
     default: return "unknown refusal";
     }

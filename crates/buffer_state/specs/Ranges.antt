@@ -7,7 +7,7 @@ use lib.IntN.{ℤ}
 use lib.ListN.{length}
 use lib.Signed.{ltZ, leZ}
 use Rattle.buffer_state.specs.declared.Frame.{Frame}
-use Rattle.buffer_state.specs.declared.Refusal.the-variants.{NoTrack, ShortRanges}
+use Rattle.buffer_state.specs.declared.Refusal.the-variants.{NoTrack, ShortList}
 use Rattle.buffer_state.specs.Buffer.{Buffer, hasTrack, endOf}
 use Rattle.buffer_state.specs.Refusals.{Result, done, refuseIf}
 
@@ -101,12 +101,12 @@ unfoldable pub trackRanges : ℕ → ℕ → Buffer → Result (List Range)
 trackRanges lent track b =
     let ranges = rangesOf track (b .frames) in
     refuseIf (not (hasTrack b track)) NoTrack
-    (refuseIf (ltb lent (length ranges)) ShortRanges
+    (refuseIf (ltb lent (length ranges)) ShortList
     (done ranges))
 
 -- The common ranges: refusals (1,) 10.
 unfoldable pub commonRanges : ℕ → Buffer → Result (List Range)
 commonRanges lent b =
     let ranges = commonRangesOf (length (b .tracks)) (b .frames) in
-    refuseIf (ltb lent (length ranges)) ShortRanges
+    refuseIf (ltb lent (length ranges)) ShortList
     (done ranges)

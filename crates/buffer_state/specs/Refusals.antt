@@ -1,8 +1,8 @@
--- Document 01, "Refusal numbers". A refusal number is that document's term: the number that a refused call returns.
+-- Document 01, "Refusal numbers", and those of document 02, which join them. A refusal number is that document's term: the number that a refused call returns.
 use mathlib.Core.Bool.{Bool, cond}
 use Prim.Native.Nat.{ℕ}
 use Rattle.buffer_state.specs.declared.Refusal.{Refusal}
-use Rattle.buffer_state.specs.declared.Refusal.the-variants.{IllFormed, ShortFates, NoTrack, FrameLimits, Seconds, Order, ResultLimits, Full, LastNumber, ShortRanges, Kinds}
+use Rattle.buffer_state.specs.declared.Refusal.the-variants.{IllFormed, ShortFates, NoTrack, FrameLimits, Seconds, Order, ResultLimits, Full, LastNumber, ShortList, Kinds, Malformed}
 
 -- The table. The calls' own definitions say exactly when each is given, and in which order.
 abbrev pub refusalNumber : Refusal → ℕ
@@ -15,8 +15,9 @@ refusalNumber Order = 6
 refusalNumber ResultLimits = 7
 refusalNumber Full = 8
 refusalNumber LastNumber = 9
-refusalNumber ShortRanges = 10
+refusalNumber ShortList = 10
 refusalNumber Kinds = 11
+refusalNumber Malformed = 12
 
 -- what a call gives: its result, or one refusal
 pub data Result (A : Type 0) : Type 0 where

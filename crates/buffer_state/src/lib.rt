@@ -77,7 +77,7 @@ pub struct Head {
     pub settings: Settings,
 }
 
-// Why a call is refused, in the order of document 01's table; specs/Refusals.antt gives the numbers.
+// Why a call is refused, in the order of the table of documents 01 and 02; specs/Refusals.antt gives the numbers.
 pub enum Refusal {
     IllFormed,
     ShortFates,
@@ -88,8 +88,9 @@ pub enum Refusal {
     ResultLimits,
     Full,
     LastNumber,
-    ShortRanges,
+    ShortList,
     Kinds,
+    Malformed, // a segment; this and what follows are of document 02
 }
 
 // The number that the table gives it.
@@ -106,8 +107,9 @@ pub fn refusal_number(why: Refusal) -> u32
         Refusal::ResultLimits => 7,
         Refusal::Full => 8,
         Refusal::LastNumber => 9,
-        Refusal::ShortRanges => 10,
+        Refusal::ShortList => 10,
         Refusal::Kinds => 11,
+        Refusal::Malformed => 12,
     }
 }
 

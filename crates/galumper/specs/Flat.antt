@@ -19,9 +19,11 @@ use Rattle.buffer_state.specs.declared.WindowEnd.{WindowEnd}
 use Rattle.buffer_state.specs.declared.WindowEnd.the-variants.{Unbounded, At}
 use Rattle.buffer_state.specs.Limits.{places}
 use Rattle.buffer_state.specs.WellFormed.{allOf}
+use Rattle.segments.specs.declared.SegmentTrack.{SegmentTrack}
 use Rattle.galumper.specs.declared.FlatGroup.{FlatGroup}
 use Rattle.galumper.specs.declared.FlatHead.{FlatHead}
 use Rattle.galumper.specs.declared.FlatOffered.{FlatOffered}
+use Rattle.galumper.specs.declared.FlatSegmentTrack.{FlatSegmentTrack}
 use Rattle.galumper.specs.declared.FlatSetting.{FlatSetting}
 use Rattle.galumper.specs.declared.FlatSettings.{FlatSettings}
 use Rattle.galumper.specs.declared.FlatTrack.{FlatTrack}
@@ -30,7 +32,7 @@ use Rattle.galumper.specs.declared.FlatTrack.{FlatTrack}
 
 -- its number, which the header has too
 abbrev pub abi : ℕ
-abi = 2
+abi = 3
 
 -- the bytes of a head, and of 1,024 rows of two numbers of 8 bytes and four of 4
 abbrev pub bufferSize : ℕ
@@ -119,6 +121,15 @@ offeredIn f = record {
   duration = durationIn (f .flagged) (f .duration);
   pts = f .pts;
   dts = f .dts;
+}
+
+-- the track of a segment that is read; any numbers will do
+abbrev pub segmentTrackIn : FlatSegmentTrack → SegmentTrack
+segmentTrackIn f = record {
+  id = f .id;
+  track = f .track;
+  timescale = f .timescale;
+  defaults = record { duration = f .duration; size = f .size; flags = f .flags };
 }
 
 -- ---- whether each number of a flat head is one of its kind

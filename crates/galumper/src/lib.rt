@@ -12,8 +12,9 @@ ghost use Rattle.buffer_state.specs.Refusals.{refusalNumber};
 ghost use Rattle.buffer_state.specs.declared.Mode.the-variants.{Segments, Sequence};
 ghost use Rattle.buffer_state.specs.Settings.{create};
 ghost use Rattle.buffer_state.specs.WellFormed.{allOf};
+ghost use Rattle.segments.specs.Segments.{listSegment, rowCount, rowsAfter};
 ghost use Rattle.galumper.specs.Calls.{refusedWith, doneWith, changedOut, handedBack, createdOut, countedOut, outcomeOut, appendFlat, removeFlat, reportOut, readingOut};
-ghost use Rattle.galumper.specs.Flat.{abi, bufferSize, flagOut, modeIn, modeOut, endIn, boundedOut, endOut, trackIn, trackOut, groupIn, groupOut, settingIn, settingOut, settingsIn, settingsOut, durationIn, offeredIn, plainTrack, plainEnd, plainSettings, plain, headIn, headOut};
+ghost use Rattle.galumper.specs.Flat.{abi, bufferSize, flagOut, modeIn, modeOut, endIn, boundedOut, endOut, trackIn, trackOut, groupIn, groupOut, settingIn, settingOut, settingsIn, settingsOut, durationIn, offeredIn, segmentTrackIn, plainTrack, plainEnd, plainSettings, plain, headIn, headOut};
 use buffer_state::Answer;
 use buffer_state::Count;
 use buffer_state::Group;
@@ -26,6 +27,8 @@ use buffer_state::Setting;
 use buffer_state::Settings;
 use buffer_state::Track;
 use buffer_state::WindowEnd;
+use fragments::Defaults;
+use segments::SegmentTrack;
 
 // ---- what C sees
 
@@ -36,6 +39,17 @@ pub struct FlatOffered {
     pub duration: u32,
     pub pts: i64,
     pub dts: i64,
+}
+
+// The track of a segment that is read: its ID there, the track number that its frames shall carry, its timescale, and its defaults.
+#[repr(C)]
+pub struct FlatSegmentTrack {
+    pub id: u32,
+    pub track: u32,
+    pub timescale: u32,
+    pub duration: u32,
+    pub size: u32,
+    pub flags: u32,
 }
 
 #[repr(C)]
@@ -83,7 +97,7 @@ pub struct FlatHead {
     pub settings: FlatSettings,
 }
 
-// What a call answers: its refusal number (0: done), and how many fate lines or ranges it wrote.
+// What a call answers: its refusal number (0: done), and how many fate lines, ranges or frames it wrote.
 #[repr(C)]
 pub struct FlatAnswer {
     pub refusal: u32,
@@ -308,6 +322,22 @@ fn offered_in(f: FlatOffered) -> Offered
     }
 }
 
+fn segment_track_in(f: FlatSegmentTrack) -> SegmentTrack
+    ensures { λ r. ⌜ r ≡ segmentTrackIn f ⌝ }
+{
+    let defaults = Defaults {
+        duration: f.duration,
+        size: f.size,
+        flags: f.flags,
+    };
+    SegmentTrack {
+        id: f.id,
+        track: f.track,
+        timescale: f.timescale,
+        defaults,
+    }
+}
+
 // ---- whether each number of a flat head is one of its kind
 
 fn plain_track(t: FlatTrack) -> bool
@@ -498,7 +528,7 @@ fn reading_out(answer: Read) -> Reading
 pub extern "C" fn galumper_abi() -> u32
     ensures { λ r. ⌜ r ≡ abi ⌝ }
 {
-    2
+    3
 }
 
 // The bytes of a buffer: a head and its arrays.
@@ -708,4 +738,19 @@ pub extern "C" fn galumper_lent_common_ranges(
 {
     let h = head_in(c);
     report_out(ranges::common_ranges(h, times, tags, list))
+}
+
+// The frames of one track in a segment, each with its size, as a row of numbers: track, presentation and decode timestamp, duration,
+// 1 if flagged, size. It takes no buffer.
+#[no_mangle]
+pub extern "C" fn galumper_lent_list_segment(
+    of: FlatSegmentTrack,
+    segment: &[u8],
+    list: &mut [[i64; 6]],
+) -> FlatAnswer
+    ensures { λ r. ⌜ r ≡ reportOut (rowCount (listSegment (segmentTrackIn of) (length (now (list .entry))) (now (segment .entry)))) ⌝ }
+    ensures { λ r. ⌜ now (list .exit) ≡ rowsAfter (listSegment (segmentTrackIn of) (length (now (list .entry))) (now (segment .entry))) (now (list .entry)) ⌝ }
+{
+    let track = segment_track_in(of);
+    report_out(segment_reader::list_segment(track, segment, list))
 }

@@ -19,7 +19,7 @@ use Rattle.buffer_state.specs.declared.Head.{Head}
 use Rattle.buffer_state.specs.declared.Read.{Read}
 use Rattle.buffer_state.specs.declared.Read.the-variants as Read
 use Rattle.buffer_state.specs.declared.Refusal.{Refusal}
-use Rattle.buffer_state.specs.declared.Refusal.the-variants.{IllFormed, ShortFates, NoTrack, FrameLimits, Seconds, Order, ResultLimits, Full, LastNumber, ShortRanges, Kinds}
+use Rattle.buffer_state.specs.declared.Refusal.the-variants.{IllFormed, ShortFates, NoTrack, FrameLimits, Seconds, Order, ResultLimits, Full, LastNumber, ShortList, Kinds, Malformed}
 use Rattle.buffer_state.specs.Answers.{changed, counted, zeroHead}
 use Rattle.buffer_state.specs.Append.{Outcome}
 use Rattle.buffer_state.specs.Buffer.{Buffer, fresh, freshSettings}
@@ -54,8 +54,9 @@ numbered Order = record { some = refl; back = refl }
 numbered ResultLimits = record { some = refl; back = refl }
 numbered Full = record { some = refl; back = refl }
 numbered LastNumber = record { some = refl; back = refl }
-numbered ShortRanges = record { some = refl; back = refl }
+numbered ShortList = record { some = refl; back = refl }
 numbered Kinds = record { some = refl; back = refl }
+numbered Malformed = record { some = refl; back = refl }
 
 -- a refusal's number is read as that refusal, in an answer of any kind
 refused-back : {A : Type 0} (unless : A) (by : Refusal → A) (why : Refusal)

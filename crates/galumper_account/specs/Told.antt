@@ -14,7 +14,7 @@ use Rattle.buffer_state.specs.declared.Mode.the-variants.{Segments, Sequence}
 use Rattle.buffer_state.specs.declared.Read.{Read}
 use Rattle.buffer_state.specs.declared.Read.the-variants as Read
 use Rattle.buffer_state.specs.declared.Refusal.{Refusal}
-use Rattle.buffer_state.specs.declared.Refusal.the-variants.{IllFormed, ShortFates, NoTrack, FrameLimits, Seconds, Order, ResultLimits, Full, LastNumber, ShortRanges, Kinds}
+use Rattle.buffer_state.specs.declared.Refusal.the-variants.{IllFormed, ShortFates, NoTrack, FrameLimits, Seconds, Order, ResultLimits, Full, LastNumber, ShortList, Kinds, Malformed}
 use Rattle.account.specs.Made as Account
 use Rattle.account.specs.Made.{Given, Back, Made}
 use Rattle.galumper.specs.declared.FlatAnswer.{FlatAnswer}
@@ -80,7 +80,7 @@ numberIn (commonRanges lent) g = g .answer .refusal
 -- The refusal of a number of the table. That the number is the table's, and not one that is only taken for it, is a part of the claim.
 abbrev pub refusalOf : ℕ → Refusal
 refusalOf n =
-    getD (IllFormed ∷ ShortFates ∷ NoTrack ∷ FrameLimits ∷ Seconds ∷ Order ∷ ResultLimits ∷ Full ∷ LastNumber ∷ ShortRanges ∷ Kinds ∷ [])
+    getD (IllFormed ∷ ShortFates ∷ NoTrack ∷ FrameLimits ∷ Seconds ∷ Order ∷ ResultLimits ∷ Full ∷ LastNumber ∷ ShortList ∷ Kinds ∷ Malformed ∷ [])
     (n - 1) IllFormed
 
 abbrev pub countOf : FlatAnswer → Count

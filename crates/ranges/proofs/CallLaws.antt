@@ -9,7 +9,7 @@ use borrow.Author.Tests.{le-leb, lt-leb, lt-ltb, le-ltb}
 use Rattle.buffer_state.specs.declared.Count.the-variants as Count
 use Rattle.buffer_state.specs.declared.Head.{Head}
 use Rattle.buffer_state.specs.declared.Refusal.{Refusal}
-use Rattle.buffer_state.specs.declared.Refusal.the-variants.{IllFormed, NoTrack, ShortRanges}
+use Rattle.buffer_state.specs.declared.Refusal.the-variants.{IllFormed, NoTrack, ShortList}
 use Rattle.buffer_state.specs.Answers.{laid, rangeCount, rangesAfter, trackRangesResult, commonRangesResult}
 use Rattle.buffer_state.specs.Lent.{wellFormedAt}
 use Rattle.buffer_state.specs.Ranges.{Range, rangesOf, commonRangesOf, trackRanges, commonRanges}
@@ -51,7 +51,7 @@ module _ (lent track : ℕ) (h : Head) (ts : List (List ℤ)) (gs : List (List �
     track-past-last j k = on-well-formed (trackRanges lent track) h ts gs w ∙ rw (le-leb 1 track j, track-count h ts gs w, lt-leb track (h .ntracks) k)
 
     module _ (j : 1 ≤ track) (k : track ≤ h .ntracks) where
-      pub track-short : lent < length (rangesOf track (stored ts gs (h .nframes))) → trackRangesResult lent track h ts gs ≡ refused ShortRanges
+      pub track-short : lent < length (rangesOf track (stored ts gs (h .nframes))) → trackRangesResult lent track h ts gs ≡ refused ShortList
       unfolding trackRangesResult trackRanges
       track-short l =
           on-well-formed (trackRanges lent track) h ts gs w ∙ rw (le-leb 1 track j, track-count h ts gs w, le-leb track (h .ntracks) k, lt-ltb _ _ l)
@@ -70,7 +70,7 @@ module _ (lent : ℕ) (h : Head) (ts : List (List ℤ)) (gs : List (List ℕ)) w
   common-ill-formed e = ill-formed-refused (commonRanges lent) h ts gs e
 
   module _ (w : wellFormedAt h ts gs ≡ true) where
-    pub common-short : lent < length (commonRangesOf (h .ntracks) (stored ts gs (h .nframes))) → commonRangesResult lent h ts gs ≡ refused ShortRanges
+    pub common-short : lent < length (commonRangesOf (h .ntracks) (stored ts gs (h .nframes))) → commonRangesResult lent h ts gs ≡ refused ShortList
     unfolding commonRangesResult commonRanges
     common-short l = on-well-formed (commonRanges lent) h ts gs w ∙ rw (track-count h ts gs w, lt-ltb _ _ l)
 

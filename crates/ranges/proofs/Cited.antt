@@ -17,7 +17,7 @@ use Rattle.buffer_state.specs.declared.Count.{Count}
 use Rattle.buffer_state.specs.declared.Count.the-variants as Count
 use Rattle.buffer_state.specs.declared.Head.{Head}
 use Rattle.buffer_state.specs.declared.Refusal.{Refusal}
-use Rattle.buffer_state.specs.declared.Refusal.the-variants.{NoTrack, ShortRanges}
+use Rattle.buffer_state.specs.declared.Refusal.the-variants.{NoTrack, ShortList}
 use Rattle.buffer_state.specs.Answers.{rangeCount, rangesAfter, laid, trackRangesResult, commonRangesResult}
 use Rattle.buffer_state.specs.Buffer.{Buffer, hasTrack}
 use Rattle.buffer_state.specs.Layout.{bufferOf}
@@ -67,8 +67,8 @@ module _ (h : Head) (ts : List (List ℤ)) (gs : List (List ℕ)) where
 
   module _ (lent track : ℕ) (r : Count) (n : ℕ) (after before : List (List ℤ))
       (told : Reported r after (trackRangesResult lent track h ts gs) before) (counted : r ≡ Count.Done n) where
-    done-track : (a b : Bool) (rs : List Range) → rangeCount (refuseIf (not a) NoTrack (refuseIf b ShortRanges (done rs))) ≡ Count.Done n
-        → refuseIf (not a) NoTrack (refuseIf b ShortRanges (done rs)) ≡ done rs
+    done-track : (a b : Bool) (rs : List Range) → rangeCount (refuseIf (not a) NoTrack (refuseIf b ShortList (done rs))) ≡ Count.Done n
+        → refuseIf (not a) NoTrack (refuseIf b ShortList (done rs)) ≡ done rs
     done-track false b rs e = absurd (refusal-no-count e)
     done-track true true rs e = absurd (refusal-no-count e)
     done-track true false rs e = refl
@@ -116,7 +116,7 @@ module _ (h : Head) (ts : List (List ℤ)) (gs : List (List ℕ)) where
   -- The common report: an instant is reported exactly when every track covers it, and neighbouring ranges never touch.
   module _ (lent : ℕ) (r : Count) (n : ℕ) (after before : List (List ℤ))
       (told : Reported r after (commonRangesResult lent h ts gs) before) (counted : r ≡ Count.Done n) where
-    done-common : (b : Bool) (rs : List Range) → rangeCount (refuseIf b ShortRanges (done rs)) ≡ Count.Done n → refuseIf b ShortRanges (done rs) ≡ done rs
+    done-common : (b : Bool) (rs : List Range) → rangeCount (refuseIf b ShortList (done rs)) ≡ Count.Done n → refuseIf b ShortList (done rs) ≡ done rs
     done-common true rs e = absurd (refusal-no-count e)
     done-common false rs e = refl
 

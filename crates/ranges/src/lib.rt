@@ -445,7 +445,7 @@ pub fn track_ranges(
     let mut spans = [[0i64; 2]; 1024];
     let n = track_bars(times, tags, h.nframes, track, &mut spans);
     if list.len() < n {
-        return Count::Refused(Refusal::ShortRanges);
+        return Count::Refused(Refusal::ShortList);
     }
     places::copy_rows(&spans, n, list);
     Count::Done(n)
@@ -466,7 +466,7 @@ pub fn common_ranges(
     let mut spans = [[0i64; 2]; 1024];
     let all = common_bars(times, tags, h.nframes, h.ntracks as u32, &mut spans);
     if list.len() < all {
-        return Count::Refused(Refusal::ShortRanges);
+        return Count::Refused(Refusal::ShortList);
     }
     places::copy_rows(&spans, all, list);
     Count::Done(all)

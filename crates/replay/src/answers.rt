@@ -31,6 +31,15 @@ pub fn refused(n: usize) {
     text::number(n as u64);
 }
 
+// The end of a line, which says where a lent list was touched.
+pub fn end(untouched: bool) {
+    if untouched {
+        text::put(b"\n");
+    } else {
+        text::put(b" touched\n");
+    }
+}
+
 // The three doubles of a reading, the last of them where there is a window end.
 pub fn settings(count: usize, doubles: [f64; 3]) {
     text::put(b"ok settings ");
@@ -186,4 +195,33 @@ pub fn state(h: Head, times: &[[i64; 2]; 1024], tags: &[[u32; 4]; 1024]) {
     text::number(h.nframes as u64);
     frames(times, tags, stored(h.nframes));
     text::put(b"\n");
+}
+
+// ---- the frames of a segment
+
+fn sample(rows: &[[i64; 6]], i: usize) {
+    if i < rows.len() {
+        let r = rows[i];
+        text::put(b" (");
+        text::time(r[0]);
+        text::put(b",");
+        text::time(r[1]);
+        text::put(b",");
+        text::time(r[2]);
+        text::put(b",");
+        text::time(r[3]);
+        text::put(b",");
+        text::time(r[4]);
+        text::put(b",");
+        text::time(r[5]);
+        text::put(b")");
+    }
+}
+
+// The first n rows.
+pub fn samples(rows: &[[i64; 6]], n: usize) {
+    text::put(b"ok samples");
+    for i in 0..n {
+        sample(rows, i);
+    }
 }

@@ -6,6 +6,7 @@ mod answers;
 mod calls;
 mod input;
 mod marks;
+mod segment;
 
 use buffer_state::Answer;
 use buffer_state::Head;
@@ -62,11 +63,7 @@ fn told(kind: u32, step: Step, fates: &[[u32; 2]], list: &[[i64; 2]]) {
     } else {
         answers::refused(step.refusal);
     }
-    if untouched(kind, step.count, fates, list) {
-        text::put(b"\n");
-    } else {
-        text::put(b" touched\n");
-    }
+    answers::end(untouched(kind, step.count, fates, list));
 }
 
 // The call itself, lent the first places of the lists.
@@ -343,6 +340,10 @@ fn answer(
     }
     if check::same(name, b"batch") {
         return batch(s, line, w);
+    }
+    if check::same(name, b"segment") {
+        segment::call(line, w);
+        return s;
     }
     slots::with_used(s, on_slot(slots::used(s), line, w, times, tags))
 }

@@ -1,6 +1,6 @@
 // The marks that a lent list holds before a call, and whether they are still there after it.
 
-pub const PLACES: usize = 4096; // the places of either list
+pub const PLACES: usize = 4096; // the places of each list
 
 pub const LINE: u32 = 4294967295;
 
@@ -50,6 +50,24 @@ fn place_marked(
 pub fn marked(fates: &[[u32; 2]], lines: usize, list: &[[i64; 2]], ranges: usize) -> bool {
     for i in 0..PLACES {
         if !place_marked(fates, lines, list, ranges, i) {
+            return false;
+        }
+    }
+    true
+}
+
+fn row_marked(rows: &[[i64; 6]], i: usize) -> bool {
+    if rows.len() <= i {
+        return true;
+    }
+    let r = rows[i];
+    r[0] == TIME && r[1] == TIME && r[2] == TIME && r[3] == TIME && r[4] == TIME && r[5] == TIME
+}
+
+// Whether the rows from place n on hold their marks.
+pub fn rows_marked(rows: &[[i64; 6]], n: usize) -> bool {
+    for i in n..PLACES {
+        if !row_marked(rows, i) {
             return false;
         }
     }

@@ -3,18 +3,18 @@ use text::read::Small;
 
 const SPACE: u8 = 32;
 
-// Where each of a line's first eight words starts and ends, and how many words there are: nine stands for more than eight.
+// Where each of a line's first nine words starts and ends, and how many words there are: ten stands for more than nine.
 pub struct Words {
     pub count: usize,
-    pub starts: [usize; 8],
-    pub ends: [usize; 8],
+    pub starts: [usize; 9],
+    pub ends: [usize; 9],
 }
 
 fn with_word(w: Words, start: usize, end: usize) -> Words {
     let mut v = w;
     let k = v.count;
-    if 8 <= k {
-        v.count = 9;
+    if 9 <= k {
+        v.count = 10;
         return v;
     }
     v.starts[k] = start;
@@ -27,8 +27,8 @@ fn with_word(w: Words, start: usize, end: usize) -> Words {
 pub fn words_of(line: &[u8]) -> Words {
     let mut w = Words {
         count: 0,
-        starts: [0; 8],
-        ends: [0; 8],
+        starts: [0; 9],
+        ends: [0; 9],
     };
     let mut start = 0;
     let mut i = 0;
@@ -55,7 +55,7 @@ pub fn part(line: &[u8], start: usize, end: usize) -> &[u8] {
 
 // The word at place k, counted from 0; a place without a word has the empty one, which stands for nothing.
 pub fn word(line: &[u8], w: Words, k: usize) -> &[u8] {
-    if 8 <= k {
+    if 9 <= k {
         return part(line, 0, 0);
     }
     part(line, w.starts[k], w.ends[k])

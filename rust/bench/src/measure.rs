@@ -3,8 +3,10 @@
 use std::hint::black_box;
 use std::time::Instant;
 
-use script::{Pair, Subject};
+use script::{Place, Subject};
 use second::{Mode, Offered, FRAME_PLACES};
+
+use crate::segment::{segment, TRACK};
 
 /// A frame lasts 40 ms: 25 frames a second.
 const FRAME: u32 = 40_000;
@@ -30,6 +32,8 @@ pub enum Case {
     Call(Call, u32, usize),
     /// An append of the survey line, with its share of the removals.
     Survey,
+    /// Listing a segment of so many frames.
+    Segment(u32),
 }
 
 /// A call on a buffer.
@@ -77,8 +81,8 @@ impl<S: Subject> Runner<S> {
     pub fn new(subject: S) -> Self {
         Self {
             subject,
-            fates: vec![Pair::of([0; 2]); FRAME_PLACES],
-            ranges: vec![Pair::of([0; 2]); FRAME_PLACES],
+            fates: vec![Place::of([0; 2]); FRAME_PLACES],
+            ranges: vec![Place::of([0; 2]); FRAME_PLACES],
         }
     }
 
@@ -166,6 +170,23 @@ impl<S: Subject> Runner<S> {
         }
         micros_since(start) / SURVEY as f64
     }
+
+    /// The median time of listing a segment, into a list that has its places to spare.
+    fn segment(&mut self, frames: u32) -> f64 {
+        let segment = segment(frames);
+        let mut list: Vec<S::Row> = vec![Place::of([0; 6]); frames as usize + 1];
+        let mut time = || {
+            let start = Instant::now();
+            let listed = self
+                .subject
+                .list_segment(TRACK, black_box(&segment), &mut list);
+            black_box(&mut list);
+            let time = micros_since(start);
+            assert_eq!(listed, Ok(frames as usize), "frames that are listed");
+            time
+        };
+        median((0..CALLS).map(|_| time()).collect())
+    }
 }
 
 impl<S: Subject> Measure for Runner<S> {
@@ -174,6 +195,7 @@ impl<S: Subject> Measure for Runner<S> {
             Case::Create(tracks) => self.create(tracks),
             Case::Call(call, tracks, frames) => self.call(call, tracks, frames),
             Case::Survey => self.survey(),
+            Case::Segment(frames) => self.segment(frames),
         }
     }
 }

@@ -10,6 +10,9 @@ const TRACKS: [u32; 3] = [1, 2, 4];
 
 const SIZES: [usize; 4] = [0, 256, 512, 1024];
 
+/// The frames of the segments: a second, ten and a hundred.
+pub const SEGMENTS: [u32; 3] = [25, 250, 2500];
+
 const CALLS: [(Call, &str); 11] = [
     (
         Call::AppendLast,
@@ -47,9 +50,9 @@ impl fmt::Display for Times {
     }
 }
 
-/// Times every case of both: the calls by tracks and sizes, then the survey line and the creations,
-/// which have no sizes. A creation is by value there and in place here, so that its ratio says
-/// little, and is not counted among the others.
+/// Times every case of both: the calls by tracks and sizes, the segments by their frames, then the
+/// survey line and the creations, which have no sizes. A creation is by value there and in place
+/// here, so that its ratio says little, and is not counted among the others.
 pub fn report(proved: &mut dyn Measure, second: &mut dyn Measure) -> String {
     let mut cases = Vec::new();
     for tracks in TRACKS {
@@ -57,23 +60,28 @@ pub fn report(proved: &mut dyn Measure, second: &mut dyn Measure) -> String {
             cases.extend(SIZES.map(|size| Case::Call(call, tracks, size)));
         }
     }
+    let calls = cases.len();
+    cases.extend(SEGMENTS.map(Case::Segment));
     cases.push(Case::Survey);
     let compared = cases.len();
     cases.extend(TRACKS.map(Case::Create));
 
     let times = measured(&cases, proved, second);
     let (compared, creations) = times.split_at(compared);
-    let survey = &compared[compared.len() - 1];
+    let (calls, rest) = compared.split_at(calls);
+    let (segments, survey) = rest.split_at(SEGMENTS.len());
+    let survey = &survey[0];
     let ratios: Vec<f64> = compared.iter().map(Times::ratio).collect();
     let greatest = ratios.iter().copied().fold(0.0, f64::max);
     let middle = median(ratios);
     let creations: Vec<String> = creations.iter().map(Times::to_string).collect();
     format!(
-        "{}\n\
+        "{}\n{}\n\
          Survey line, one append of 100,000: {survey}.\n\
          Creation, on 1, 2 and 4 tracks: {}.\n\
          Ratios without creation: {middle:.2} in the median, {greatest:.2} at most.\n",
-        table(compared),
+        table(calls),
+        segment_table(segments),
         creations.join(", "),
     )
 }
@@ -88,6 +96,21 @@ fn table(times: &[Times]) -> String {
     for (name, times) in names.zip(times.chunks(SIZES.len())) {
         let cells: Vec<String> = times.iter().map(Times::to_string).collect();
         text.push_str(&format!("| {name} | {} |\n", cells.join(" | ")));
+    }
+    text
+}
+
+/// A line for each segment, with the frames that are listed in a second.
+fn segment_table(times: &[Times]) -> String {
+    let mut text =
+        String::from("| listing a segment of | time | frames a second, proved | second |\n");
+    text.push_str("|---|---|---|---|\n");
+    for (frames, times) in SEGMENTS.into_iter().zip(times) {
+        let [proved, second] =
+            [times.proved, times.second].map(|micros| f64::from(frames) / micros);
+        text.push_str(&format!(
+            "| {frames} frames | {times} | {proved:.1} million | {second:.1} million |\n"
+        ));
     }
     text
 }

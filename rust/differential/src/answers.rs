@@ -1,5 +1,6 @@
 //! Counting what the answers say: accepted and refused calls, causes, and the doubles handed in.
 
+use std::collections::BTreeMap;
 use std::fmt::Write;
 
 use script::Call;
@@ -20,7 +21,7 @@ const fn row(call: &'static str, refusals: &'static [usize], causes: &'static [u
     }
 }
 
-const ROWS: [Row; 11] = [
+const ROWS: [Row; 12] = [
     row("create", &[11], &[]),
     row("append", &[1, 2, 3, 4, 9, 7, 8], &[1, 2, 3, 4, 5]),
     row("remove", &[1, 2, 5, 6], &[5, 6]),
@@ -32,10 +33,13 @@ const ROWS: [Row; 11] = [
     row("settings", &[1], &[]),
     row("ranges", &[1, 3, 10], &[]),
     row("common", &[1, 10], &[]),
+    row(SEGMENT, &[12, 4, 10], &[]),
 ];
 
+const SEGMENT: &str = "segment";
+
 /// One more than the highest refusal.
-const REFUSALS: usize = 12;
+const REFUSALS: usize = 13;
 
 /// One more than the highest cause.
 const CAUSES: usize = 7;
@@ -67,6 +71,16 @@ fn is_half(double: f64) -> bool {
     double.abs() <= SECONDS_LIMIT && (double * 128.0).rem_euclid(2.0) == 1.0
 }
 
+/// What damage must have done to a segment: its answer whole, and damaged. Where a 12 takes the
+/// place of a 4 or a 10, and a 4 that of a 10, it is by the order of the three.
+const DAMAGE: [[Option<u32>; 2]; 5] = [
+    [None, None],
+    [None, Some(12)],
+    [Some(4), Some(12)],
+    [Some(10), Some(12)],
+    [Some(10), Some(4)],
+];
+
 /// What was answered.
 #[derive(Clone, Debug, Default)]
 pub struct Answers {
@@ -80,10 +94,14 @@ pub struct Answers {
     pub accounts: u64,
     /// Pokes that an implementation declined.
     pub declined: u64,
+    /// Segments compared besides those of scripts.
+    pub segments: u64,
     accepted: [u64; ROWS.len()],
     refused: [[u64; REFUSALS]; ROWS.len()],
     causes: [[u64; CAUSES]; ROWS.len()],
     doubles: [u64; DOUBLES.len()],
+    /// What a segment is answered whole, and what damaged: none for no refusal.
+    damage: BTreeMap<[Option<u32>; 2], u64>,
 }
 
 impl Answers {
@@ -91,17 +109,12 @@ impl Answers {
     pub(crate) fn count(&mut self, line: &str, answer: &str) {
         self.answers += 1;
         self.count_doubles(line);
-        let call = line.split(' ').next();
-        let Some(row) = ROWS.iter().position(|row| Some(row.call) == call) else {
+        let call = line.split(' ').next().unwrap_or_default();
+        let Some(row) = place(call) else {
             return;
         };
         match answer.split_once(' ') {
-            Some(("refused", number)) => {
-                let number: Option<usize> = number.parse().ok();
-                if let Some(place) = number.and_then(|n| self.refused[row].get_mut(n)) {
-                    *place += 1;
-                }
-            }
+            Some(("refused", number)) => self.refuse(row, number.parse().ok()),
             _ if answer.starts_with("ok") => {
                 self.accepted[row] += 1;
                 for (_, cause) in fates(answer) {
@@ -112,6 +125,27 @@ impl Answers {
             }
             _ => {}
         }
+    }
+
+    fn refuse(&mut self, row: usize, number: Option<usize>) {
+        if let Some(place) = number.and_then(|number| self.refused[row].get_mut(number)) {
+            *place += 1;
+        }
+    }
+
+    /// Counts what a segment is answered that no script has.
+    pub(crate) fn segment(&mut self, result: Result<usize, u32>) {
+        self.segments += 1;
+        let row = place(SEGMENT).unwrap_or_default();
+        match result {
+            Ok(_) => self.accepted[row] += 1,
+            Err(number) => self.refuse(row, usize::try_from(number).ok()),
+        }
+    }
+
+    /// Counts what became of a segment by its damage.
+    pub(crate) fn damage(&mut self, whole: Result<usize, u32>, torn: Result<usize, u32>) {
+        *self.damage.entry([whole.err(), torn.err()]).or_default() += 1;
     }
 
     fn count_doubles(&mut self, line: &str) {
@@ -156,6 +190,12 @@ impl Answers {
             .zip(self.doubles)
             .filter(|(_, times)| *times == 0);
         gaps.extend(missed.map(|((name, _), _)| format!("seconds, {name}: never")));
+        let missed = DAMAGE
+            .iter()
+            .filter(|pair| !self.damage.contains_key(*pair));
+        gaps.extend(missed.map(|[whole, torn]| {
+            format!("segment {}, damaged {}: never", said(*whole), said(*torn))
+        }));
         gaps
     }
 
@@ -182,7 +222,24 @@ impl Answers {
         for ((name, _), times) in DOUBLES.iter().zip(self.doubles) {
             let _ = writeln!(text, "| {name} | {times} |");
         }
+        text.push_str("\n| Segment, whole | Damaged | Times |\n|---|---|---|\n");
+        for ([whole, torn], times) in &self.damage {
+            let _ = writeln!(text, "| {} | {} | {times} |", said(*whole), said(*torn));
+        }
         text
+    }
+}
+
+/// The row of a call.
+fn place(call: &str) -> Option<usize> {
+    ROWS.iter().position(|row| row.call == call)
+}
+
+/// A refusal in words, or none.
+fn said(refusal: Option<u32>) -> String {
+    match refusal {
+        Some(number) => format!("refused {number}"),
+        None => "accepted".to_string(),
     }
 }
 

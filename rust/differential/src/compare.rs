@@ -9,7 +9,7 @@ use crate::account::Accounts;
 use crate::answers::Answers;
 
 /// The calls that only read.
-const READING: [&str; 4] = ["settings", "ranges", "common", "state"];
+const READING: [&str; 5] = ["settings", "ranges", "common", "segment", "state"];
 
 /// Where two implementations part.
 #[derive(Clone, Debug, PartialEq, Eq)]

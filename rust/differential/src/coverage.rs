@@ -1,8 +1,9 @@
-//! Counting the branches of the steps and the clauses of the well-formed test.
+//! Counting the branches of the steps and of the reader of segments, and the clauses of the
+//! well-formed test.
 
 use std::fmt::Write;
 
-use second::{Branch, Fault, Trace};
+use second::{Branch, Fault, Framing, Parent, SegmentBranch, Trace};
 
 /// Where in a call a branch is taken.
 #[derive(Clone, Copy, Debug, PartialEq, Eq)]
@@ -44,6 +45,8 @@ pub struct Coverage {
     faults: [u64; Fault::ALL.len()],
     /// Breaks in the pass in which step 1 has just set the offset.
     breaks_after_start: u64,
+    framings: [[u64; Parent::ALL.len()]; Framing::ALL.len()],
+    segments: [u64; SegmentBranch::ALL.len()],
 }
 
 impl Default for Coverage {
@@ -54,6 +57,8 @@ impl Default for Coverage {
             branches: [[0; PARTS.len()]; Branch::ALL.len()],
             faults: [0; Fault::ALL.len()],
             breaks_after_start: 0,
+            framings: [[0; Parent::ALL.len()]; Framing::ALL.len()],
+            segments: [0; SegmentBranch::ALL.len()],
         }
     }
 }
@@ -77,6 +82,14 @@ impl Trace for Coverage {
     fn fault(&mut self, fault: Fault) {
         self.faults[fault as usize] += 1;
     }
+
+    fn framed(&mut self, parent: Parent, framing: Framing) {
+        self.framings[framing as usize][parent as usize] += 1;
+    }
+
+    fn segment(&mut self, branch: SegmentBranch) {
+        self.segments[branch as usize] += 1;
+    }
 }
 
 impl Coverage {
@@ -98,6 +111,20 @@ impl Coverage {
             .zip(self.faults)
             .filter(|(_, times)| *times == 0);
         gaps.extend(missed.map(|(fault, _)| format!("{}: never", fault.text())));
+        for (framing, counts) in Framing::ALL.iter().zip(&self.framings) {
+            let missed = Parent::ALL
+                .iter()
+                .zip(counts)
+                .filter(|(_, times)| **times == 0);
+            gaps.extend(
+                missed.map(|(parent, _)| format!("{} in {}: never", framing.text(), parent.text())),
+            );
+        }
+        let missed = SegmentBranch::ALL
+            .iter()
+            .zip(self.segments)
+            .filter(|(_, times)| *times == 0);
+        gaps.extend(missed.map(|(branch, _)| format!("segment, {}: never", branch.text())));
         gaps
     }
 
@@ -123,6 +150,19 @@ impl Coverage {
         text.push_str("\n| Fault of a state | Times |\n|---|---|\n");
         for (fault, times) in Fault::ALL.iter().zip(self.faults) {
             let _ = writeln!(text, "| {} | {times} |", fault.text());
+        }
+        text.push_str("\n| Box, by its parent");
+        for parent in Parent::ALL {
+            let _ = write!(text, " | {}", parent.text());
+        }
+        text.push_str(" |\n|---|---|---|---|\n");
+        for (framing, counts) in Framing::ALL.iter().zip(&self.framings) {
+            let cells = counts.map(|times| times.to_string()).join(" | ");
+            let _ = writeln!(text, "| {} | {cells} |", framing.text());
+        }
+        text.push_str("\n| Branch of the reader of segments | Times |\n|---|---|\n");
+        for (branch, times) in SegmentBranch::ALL.iter().zip(self.segments) {
+            let _ = writeln!(text, "| {} | {times} |", branch.text());
         }
         text
     }

@@ -407,7 +407,7 @@ fn poke(writer: &mut Writer) {
 /// Each call with the same chance, also with lists too short and with times out of order.
 fn every_call(writer: &mut Writer) {
     let fates = writer.rng.pick(&["", "", "", " fates=1023"]);
-    match writer.rng.between(1, 11) {
+    match writer.rng.between(1, 12) {
         1..=2 => {
             let track = writer.track();
             writer.line(format!("append {track} 100 100 100 1{fates}"));
@@ -418,6 +418,7 @@ fn every_call(writer: &mut Writer) {
         6..=7 => writer.setter(),
         8 => writer.line("settings"),
         9..=10 => writer.report(),
+        11 => writer.segment(),
         _ => writer.append_on(),
     }
 }

@@ -1,9 +1,9 @@
-//! Generated scripts, put to two implementations of the frame buffer at once, and every answer,
-//! list and state compared.
+//! Generated scripts and segments, put to two implementations of the frame buffer at once, and
+//! every answer, list and state compared.
 //!
-//! What the scripts reached is counted: each refusal of each call, each cause, each clause of the
-//! well-formed test and each branch of the steps. A run that never reached one of them proves
-//! less than it seems to, and fails.
+//! What they reached is counted: each refusal of each call, each cause, each clause of the
+//! well-formed test, each branch of the steps and of the reader of segments. A run that never
+//! reached one of them proves less than it seems to, and fails.
 
 #![forbid(unsafe_code)]
 
@@ -14,6 +14,7 @@ mod coverage;
 mod generate;
 mod rng;
 mod run;
+mod segments;
 mod writer;
 
 pub use answers::Answers;

@@ -1,6 +1,7 @@
-//! Compares two implementations of the frame buffer over generated scripts.
+//! Compares two implementations of the frame buffer over generated scripts and segments.
 //!
-//! `differential [SCRIPTS [SEED]]`; without words, as many scripts as a minute allows with time to spare.
+//! `differential [SCRIPTS [SEED [SEGMENTS]]]`; without words, as many scripts and segments as a minute
+//! and a few seconds allow with time to spare. Each of the segments has three damaged ones beside it.
 
 #![forbid(unsafe_code)]
 
@@ -13,20 +14,28 @@ use script::{Proved, Second};
 
 const SCRIPTS: u64 = 10_000;
 
+const SEGMENTS: u64 = 250_000;
+
 fn main() -> ExitCode {
     let mut words = env::args().skip(1).map(|word| word.parse::<u64>());
-    let (Ok(scripts), Ok(seed)) = (
+    let (Ok(scripts), Ok(seed), Ok(segments)) = (
         words.next().unwrap_or(Ok(SCRIPTS)),
         words.next().unwrap_or(Ok(0)),
+        words.next().unwrap_or(Ok(SEGMENTS)),
     ) else {
-        eprintln!("usage: differential [SCRIPTS [SEED]]");
+        eprintln!("usage: differential [SCRIPTS [SEED [SEGMENTS]]]");
         return ExitCode::FAILURE;
+    };
+    let plan = Plan {
+        seed,
+        scripts,
+        segments,
     };
 
     let mut one: Second<Coverage> = Second::default();
     let mut other = Proved;
     let start = Instant::now();
-    let answers = match run(Plan { seed, scripts }, &mut one, &mut other) {
+    let answers = match run(plan, &mut one, &mut other) {
         Ok(answers) => answers,
         Err(failure) => {
             println!("{failure}");
@@ -36,11 +45,13 @@ fn main() -> ExitCode {
 
     println!("{}\n{}", answers.tables(), one.trace.tables());
     println!(
-        "{} scripts, {} answers, {} states and {} accounts compared in {:.1} s, {} pokes declined",
+        "{} scripts, {} answers, {} states, {} accounts and {} segments compared in {:.1} s, \
+         {} pokes declined",
         answers.scripts,
         answers.answers,
         answers.states,
         answers.accounts,
+        answers.segments,
         start.elapsed().as_secs_f64(),
         answers.declined
     );

@@ -7,14 +7,17 @@ use script::Subject;
 use crate::answers::Answers;
 use crate::compare::{compare, Parting};
 use crate::generate::script;
+use crate::segments::compare_segments;
 
-/// Which scripts to run.
+/// Which scripts and segments to run.
 #[derive(Clone, Copy, Debug)]
 pub struct Plan {
     /// The first seed.
     pub seed: u64,
-    /// How many, one a seed.
+    /// How many scripts, one a seed.
     pub scripts: u64,
+    /// How many well-made segments, one a seed, each with a few damaged ones.
+    pub segments: u64,
 }
 
 /// A difference between two implementations.
@@ -38,7 +41,18 @@ impl fmt::Display for Failure {
     }
 }
 
-/// Puts the scripts of a plan to two implementations.
+impl Failure {
+    /// One that a segment shows.
+    pub(crate) fn of_segment(seed: u64, parting: Box<Parting>) -> Self {
+        Self {
+            seed,
+            script: vec![parting.line.clone()],
+            parting,
+        }
+    }
+}
+
+/// Puts the scripts and the segments of a plan to two implementations.
 pub fn run<A: Subject, B: Subject>(
     plan: Plan,
     one: &mut A,
@@ -51,6 +65,8 @@ pub fn run<A: Subject, B: Subject>(
             return Err(shorten(seed, lines, parting, one, other));
         }
     }
+    let seeds = plan.seed..plan.seed + plan.segments;
+    compare_segments(seeds, one, other, &mut answers)?;
     Ok(answers)
 }
 

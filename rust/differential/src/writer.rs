@@ -3,6 +3,7 @@
 use second::{quotient, LONGEST_DURATION, SECONDS_LIMIT, TRACK_PLACES};
 
 use crate::rng::Rng;
+use crate::segments;
 
 /// Durations around the usual 100.
 const DURATIONS: [u32; 9] = [100, 100, 100, 100, 1, 50, 99, 101, 400];
@@ -152,6 +153,12 @@ impl Writer {
         self.line(line);
     }
 
+    /// A segment, well-made or damaged.
+    pub(crate) fn segment(&mut self) {
+        let line = segments::any(&mut self.rng).line();
+        self.line(line);
+    }
+
     /// Any call, mostly appends.
     pub(crate) fn any_call(&mut self) {
         match self.rng.between(1, 100) {
@@ -165,6 +172,7 @@ impl Writer {
             88..=96 => self.report(),
             97 => self.line("save"),
             98 => self.line("restore"),
+            99 => self.segment(),
             _ => self.line("state"),
         }
     }

@@ -19,7 +19,7 @@ pub struct Reading {
 }
 
 /// Whether the library that is linked belongs to this crate. A creation asks it too; a program that
-/// loads buffers asks it first.
+/// loads buffers, or lists a segment before it creates one, asks it first.
 pub fn matches() -> bool {
     // SAFETY: the functions take nothing, and answer a number each.
     let (abi, size) = unsafe { (foreign::galumper_abi(), foreign::galumper_size()) };
@@ -178,7 +178,7 @@ impl Buffer {
     /// # Errors
     ///
     /// The first of these that applies: [`Refusal::IllFormed`], [`Refusal::NoTrack`],
-    /// [`Refusal::ShortRanges`].
+    /// [`Refusal::ShortList`].
     pub fn track_ranges(&self, track: u32, list: &mut [Range]) -> Result<usize, Refusal> {
         let Self { head, times, tags } = self;
         let (ranges, places) = (list.as_mut_ptr(), list.len());
@@ -192,7 +192,7 @@ impl Buffer {
     ///
     /// # Errors
     ///
-    /// The first of these that applies: [`Refusal::IllFormed`], [`Refusal::ShortRanges`].
+    /// The first of these that applies: [`Refusal::IllFormed`], [`Refusal::ShortList`].
     pub fn common_ranges(&self, list: &mut [Range]) -> Result<usize, Refusal> {
         let Self { head, times, tags } = self;
         let (ranges, places) = (list.as_mut_ptr(), list.len());
@@ -208,7 +208,7 @@ impl Buffer {
     }
 }
 
-fn counted(answer: Answer) -> Result<usize, Refusal> {
+pub(crate) fn counted(answer: Answer) -> Result<usize, Refusal> {
     done(answer.refusal).map(|()| answer.count)
 }
 

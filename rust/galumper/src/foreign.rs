@@ -4,11 +4,12 @@
 use crate::buffer::{Head, Offered, Tags, Times};
 use crate::lists::{Fate, Range};
 use crate::names::Kind;
+use crate::segment::{ListedFrame, SegmentTrack};
 
 /// The number of the layout and of the functions below; the library has its own to compare.
-pub const ABI: u32 = 2;
+pub const ABI: u32 = 3;
 
-/// What a call answers: its refusal, 0 for none, and how many lines or ranges it wrote.
+/// What a call answers: its refusal, 0 for none, and how many lines, ranges or frames it wrote.
 #[repr(C)]
 pub struct Answer {
     pub refusal: u32,
@@ -93,6 +94,13 @@ extern "C" {
         times: &Times,
         tags: &Tags,
         ranges: *mut Range,
+        places: usize,
+    ) -> Answer;
+    pub fn galumper_lent_list_segment(
+        of: SegmentTrack,
+        segment: *const u8,
+        length: usize,
+        frames: *mut ListedFrame,
         places: usize,
     ) -> Answer;
 }

@@ -27,6 +27,7 @@ mod calls;
 mod foreign;
 mod lists;
 mod names;
+mod segment;
 
 pub use buffer::{
     Buffer, Group, Head, Offered, Setting, Settings, Tags, Times, Track, PLACES, SIZE, TRACKS,
@@ -34,3 +35,4 @@ pub use buffer::{
 pub use calls::{create, matches, Reading};
 pub use lists::{held, Fate, Range, FATES, RANGES};
 pub use names::{Cause, Kind, Mode, Refusal};
+pub use segment::{list_segment, ListedFrame, SegmentTrack};

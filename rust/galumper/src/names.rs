@@ -14,7 +14,8 @@ pub enum Refusal {
     ShortFates = 2,
     /// A track that the buffer does not have.
     NoTrack = 3,
-    /// A field of the offered frame outside its limit.
+    /// A field of the offered frame, or of one read from a segment, outside its limit, or such a
+    /// timescale.
     FrameLimits = 4,
     /// A double that does not convert to microseconds.
     Seconds = 5,
@@ -26,10 +27,13 @@ pub enum Refusal {
     Full = 8,
     /// No frame number left to give.
     LastNumber = 9,
-    /// More ranges than the lent list has places.
-    ShortRanges = 10,
+    /// More ranges or frames than the lent list has places.
+    ShortList = 10,
     /// Creation with no track, more than four, or an unknown kind.
     Kinds = 11,
+    /// A segment with a box that overruns, is too short, has size 0 or an unknown version, or with
+    /// a movie fragment, a track fragment's header or a decode time missing, doubled or after a run.
+    Malformed = 12,
 }
 
 impl Refusal {
@@ -44,8 +48,9 @@ impl Refusal {
         Self::ResultLimits,
         Self::Full,
         Self::LastNumber,
-        Self::ShortRanges,
+        Self::ShortList,
         Self::Kinds,
+        Self::Malformed,
     ];
 
     /// Its number, which is the same in every language.
@@ -66,14 +71,15 @@ impl fmt::Display for Refusal {
             Self::IllFormed => "the buffer is not well-formed",
             Self::ShortFates => "the fate list has fewer than 1,024 lines",
             Self::NoTrack => "the buffer has no such track",
-            Self::FrameLimits => "the offered frame is outside the limits",
+            Self::FrameLimits => "a frame or timescale is outside the limits",
             Self::Seconds => "the seconds do not convert to microseconds",
             Self::Order => "the start is negative or not before the end",
             Self::ResultLimits => "a time would leave the limits",
             Self::Full => "the store is full",
             Self::LastNumber => "the last frame number is given",
-            Self::ShortRanges => "the range list has too few places",
+            Self::ShortList => "the list has too few places",
             Self::Kinds => "no track, more than four, or an unknown kind",
+            Self::Malformed => "the segment is not well-formed",
         })
     }
 }

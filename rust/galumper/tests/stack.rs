@@ -2,7 +2,9 @@
 
 use std::thread;
 
-use galumper::{Buffer, Fate, Kind, Mode, Offered, Range, FATES, PLACES, RANGES};
+use galumper::{
+    Buffer, Fate, Kind, ListedFrame, Mode, Offered, Range, SegmentTrack, FATES, PLACES, RANGES,
+};
 
 /// What a thread needs for any call, with the few kilobytes of its own.
 const STACK: usize = 64 * 1024;
@@ -37,6 +39,21 @@ fn full() -> Box<Buffer> {
     buffer
 }
 
+/// A segment with a run of 1,024 samples, all by default.
+const SEGMENT: &[u8] = b"\0\0\0\x40moof\0\0\0\x38traf\
+    \0\0\0\x10tfhd\0\0\0\0\0\0\0\x01\
+    \0\0\0\x10tfdt\0\0\0\0\0\0\0\0\
+    \0\0\0\x10trun\0\0\0\0\0\0\x04\0";
+
+const OF: SegmentTrack = SegmentTrack {
+    id: 1,
+    track: 1,
+    timescale: 90_000,
+    duration: 3003,
+    size: 1000,
+    flags: 0,
+};
+
 #[test]
 fn every_call_on_a_small_stack() {
     let mut buffer = full();
@@ -54,6 +71,8 @@ fn every_call_on_a_small_stack() {
         assert_eq!(buffer.append(frame(500), &mut fates), Ok(1));
         assert_eq!(buffer.remove(0.0, 1.0, &mut fates), Ok(100));
         assert!(galumper::create(&KINDS).is_ok());
+        let mut frames = vec![ListedFrame::default(); 1024];
+        assert_eq!(galumper::list_segment(OF, SEGMENT, &mut frames), Ok(1024));
     };
     let thread = thread::Builder::new().stack_size(STACK).spawn(calls);
     let joined = thread.expect("a thread").join();

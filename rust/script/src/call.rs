@@ -2,7 +2,7 @@
 
 use std::str::FromStr;
 
-use second::{Mode, Offered, FRAME_PLACES};
+use second::{Mode, Offered, SegmentTrack, FRAME_PLACES};
 
 use crate::poke::Poke;
 
@@ -31,6 +31,8 @@ pub enum Call {
     Ranges(u32, usize),
     /// Reports the common ranges.
     Common(usize),
+    /// Lists a track's frames from a segment.
+    Segment(SegmentTrack, Vec<u8>, usize),
     /// Prints the state.
     State,
     /// Takes a slot in use.
@@ -85,6 +87,18 @@ impl Call {
             ["settings"] => Self::Settings,
             ["ranges", track] => Self::Ranges(whole(track)?, lengths.places),
             ["common"] => Self::Common(lengths.places),
+            ["segment", id, track, timescale, duration, size, flags, segment] => Self::Segment(
+                SegmentTrack {
+                    id: whole(id)?,
+                    track: whole(track)?,
+                    timescale: whole(timescale)?,
+                    duration: whole(duration)?,
+                    size: whole(size)?,
+                    flags: whole(flags)?,
+                },
+                bytes(segment)?,
+                lengths.places,
+            ),
             ["state"] => Self::State,
             ["buffer", "1"] => Self::Buffer(0),
             ["buffer", "2"] => Self::Buffer(1),
@@ -163,6 +177,28 @@ pub(crate) fn seconds(word: &str) -> Option<f64> {
     }
 }
 
+/// Bytes as an even number of lower-case hexadecimal digits, or `-` for none.
+fn bytes(word: &str) -> Option<Vec<u8>> {
+    if word == "-" {
+        return Some(Vec::new());
+    }
+    let (pairs, rest) = word.as_bytes().as_chunks();
+    if word.is_empty() || !rest.is_empty() {
+        return None;
+    }
+    let byte = |&[high, low]: &[u8; 2]| Some(16 * digit(high)? + digit(low)?);
+    pairs.iter().map(byte).collect()
+}
+
+/// What a lower-case hexadecimal digit stands for.
+fn digit(digit: u8) -> Option<u8> {
+    match digit {
+        b'0'..=b'9' => Some(digit - b'0'),
+        b'a'..=b'f' => Some(digit - b'a' + 10),
+        _ => None,
+    }
+}
+
 #[cfg(test)]
 mod tests {
     use super::*;
@@ -197,8 +233,31 @@ mod tests {
     }
 
     #[test]
+    fn a_segment_in_digits() {
+        let of = SegmentTrack {
+            id: 1,
+            track: 2,
+            timescale: 3,
+            duration: 4,
+            size: 5,
+            flags: u32::MAX,
+        };
+        let segment = |bytes: &[u8]| Some(Call::Segment(of, bytes.to_vec(), 7));
+        let line = "segment 1 2 3 4 5 4294967295";
+        assert_eq!(Call::read(&format!("{line} - places=7")), segment(&[]));
+        let read = Call::read(&format!("{line} 00ff1a places=7"));
+        assert_eq!(read, segment(&[0x00, 0xff, 0x1a]));
+        for bad in ["", "0", "00f", "0F", "0x", "--", "0-"] {
+            assert_eq!(Call::read(&format!("{line} {bad}")), None, "{bad}");
+        }
+    }
+
+    #[test]
     fn what_is_not_a_call() {
         for bad in [
+            "segment 1 2 3 4 5 6",
+            "segment 1 2 3 4 5 4294967296 -",
+            "segment 1 2 3 4 5 -6 -",
             "seek 1 0",
             "append 1 0 0 100",
             "append 1 0 0 100 2",

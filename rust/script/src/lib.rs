@@ -2,13 +2,14 @@
 //! the frame buffer: one call a line, one answer a line.
 //!
 //! An implementation takes part by its [`Subject`]. The words of the paper that both sides need
-//! (a frame as offered, a mode, a whole state to look at) are those of the crate `second`.
+//! (a frame as offered, a mode, a segment's track, a whole state to look at) are those of the crate
+//! `second`.
 
 #![forbid(unsafe_code)]
 
 mod call;
 mod lent;
-mod pair;
+mod place;
 mod poke;
 mod print;
 mod proved;
@@ -16,7 +17,7 @@ mod session;
 mod subject;
 
 pub use call::Call;
-pub use pair::Pair;
+pub use place::Place;
 pub use poke::{FrameField, Poke, TrackField};
 pub use print::{bits, state_line};
 pub use proved::Proved;

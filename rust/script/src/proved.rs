@@ -2,10 +2,10 @@
 
 use std::array;
 
-use galumper::{Buffer, Fate, Kind, Range, Refusal, Track};
+use galumper::{Buffer, Fate, Kind, ListedFrame, Range, Refusal, Track};
 use second::{
-    End, Frame, Head, Maybe, Mode, Offered, Reading, Seconds, Settings, State, WindowEnd,
-    TRACK_PLACES,
+    End, Frame, Head, Maybe, Mode, Offered, Reading, Seconds, SegmentTrack, Settings, State,
+    WindowEnd, TRACK_PLACES,
 };
 
 use crate::poke::{FrameField, Poke, TrackField};
@@ -35,6 +35,7 @@ impl Subject for Proved {
     type State = Box<Buffer>;
     type Fate = Fate;
     type Stretch = Range;
+    type Row = ListedFrame;
 
     fn create(&mut self, kinds: &[u32]) -> Result<Self::State, u32> {
         let kinds: Vec<Kind> = kinds.iter().copied().map(kind).collect();
@@ -107,6 +108,23 @@ impl Subject for Proved {
 
     fn common_ranges(&mut self, buffer: &Self::State, list: &mut [Range]) -> Result<usize, u32> {
         numbered(buffer.common_ranges(list))
+    }
+
+    fn list_segment(
+        &mut self,
+        of: SegmentTrack,
+        segment: &[u8],
+        list: &mut [ListedFrame],
+    ) -> Result<usize, u32> {
+        let of = galumper::SegmentTrack {
+            id: of.id,
+            track: of.track,
+            timescale: of.timescale,
+            duration: of.duration,
+            size: of.size,
+            flags: of.flags,
+        };
+        numbered(galumper::list_segment(of, segment, list))
     }
 
     fn view(&self, buffer: &Self::State) -> State {

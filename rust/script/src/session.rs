@@ -4,13 +4,14 @@ use second::{Reading, WindowEnd};
 
 use crate::call::Call;
 use crate::lent::Lent;
-use crate::pair::Pair;
+use crate::place::Place;
 use crate::print::{bits, state_line};
 use crate::subject::{Declined, Subject};
 
-/// Numbers that no call writes, neither in fate lines nor in ranges.
+/// Numbers that no call writes, neither in fate lines nor in ranges nor for a listed frame.
 const FATE_MARK: [u32; 2] = [0xdead_beef, 0xfeed_f00d];
 const STRETCH_MARK: [i64; 2] = [i64::MAX, i64::MIN];
+const ROW_MARK: [i64; 6] = [i64::MAX, i64::MIN, i64::MAX, i64::MIN, i64::MAX, i64::MIN];
 
 /// A session with an implementation.
 pub struct Session<'a, S: Subject> {
@@ -20,6 +21,7 @@ pub struct Session<'a, S: Subject> {
     saved: Option<S::State>,
     fates: Lent<S::Fate>,
     ranges: Lent<S::Stretch>,
+    rows: Lent<S::Row>,
     /// Lines of a batch still to be passed over.
     batch: usize,
 }
@@ -32,8 +34,9 @@ impl<'a, S: Subject> Session<'a, S> {
             slots: [None, None],
             in_use: 0,
             saved: None,
-            fates: Lent::new(Pair::of(FATE_MARK)),
-            ranges: Lent::new(Pair::of(STRETCH_MARK)),
+            fates: Lent::new(Place::of(FATE_MARK)),
+            ranges: Lent::new(Place::of(STRETCH_MARK)),
+            rows: Lent::new(Place::of(ROW_MARK)),
             batch: 0,
         }
     }
@@ -106,6 +109,10 @@ impl<'a, S: Subject> Session<'a, S> {
                 let result = subject.common_ranges(slot.as_ref()?, self.ranges.lend(length));
                 self.ranges.answer(result, "ranges", stretch)
             }
+            Call::Segment(of, segment, length) => {
+                let result = subject.list_segment(of, &segment, self.rows.lend(length));
+                self.rows.answer(result, "samples", row)
+            }
             Call::State => state_line(&subject.view(slot.as_ref()?)),
             Call::Buffer(number) => {
                 self.in_use = number;
@@ -153,14 +160,19 @@ fn settings(result: Result<Reading, u32>) -> String {
     }
 }
 
-fn fate(line: &impl Pair<u32>) -> String {
+fn fate(line: &impl Place<u32, 2>) -> String {
     let [number, cause] = line.numbers();
     format!("({number},{cause})")
 }
 
-fn stretch(stretch: &impl Pair<i64>) -> String {
+fn stretch(stretch: &impl Place<i64, 2>) -> String {
     let [start, end] = stretch.numbers();
     format!("[{start},{end})")
+}
+
+fn row(row: &impl Place<i64, 6>) -> String {
+    let [track, pts, dts, duration, flag, size] = row.numbers();
+    format!("({track},{pts},{dts},{duration},{flag},{size})")
 }
 
 #[cfg(test)]
@@ -184,6 +196,27 @@ mod tests {
         let script = "abort\nsave\nrestore\npoke group-end 0\nstate\ncreate 2\nstate";
         let wanted = ["none", "none", "none", "none", "none", "refused 11", "none"];
         assert_eq!(answers(script), wanted);
+    }
+
+    #[test]
+    fn a_segment_needs_no_state() {
+        // A movie fragment with one track fragment of track 1: a header, a decode time of 5 and a
+        // run of one sample.
+        let segment = "000000446d6f6f66 0000003c74726166 0000001074666864 0000000000000001 \
+                       0000001074666474 0000000000000005 000000147472756e 0000000000000001 00000000";
+        let segment = segment.replace(' ', "");
+        let call = format!("segment 1 2 1000 40 9 0 {segment}");
+        let script = format!(
+            "{call}\n{call} places=0\nsegment 1 2 0 40 9 0 {segment}\nsegment 1 2 1000 40 9 0 -"
+        );
+        let wanted = [
+            "ok samples (2,5000,5000,40000,1,9)",
+            "refused 10",
+            "refused 4",
+            "refused 12",
+        ];
+        assert_eq!(answers(&script), wanted);
+        assert_eq!(answers_of(&mut Proved, &script), wanted);
     }
 
     #[test]

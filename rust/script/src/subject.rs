@@ -3,10 +3,11 @@
 use std::num::TryFromIntError;
 
 use second::{
-    Fate, Maybe, Mode, Offered, Reading, Refusal, State, Stretch, Trace, FRAME_PLACES, TRACK_PLACES,
+    Fate, Maybe, Mode, Offered, Reading, Refusal, Row, SegmentTrack, State, Stretch, Trace,
+    FRAME_PLACES, TRACK_PLACES,
 };
 
-use crate::pair::Pair;
+use crate::place::Place;
 use crate::poke::{FrameField, Poke, TrackField};
 
 /// An implementation of the buffer. A refusal is its number, as one never heard of must be shown
@@ -15,9 +16,12 @@ pub trait Subject {
     /// The buffer, a plain value.
     type State: Clone;
     /// A line of the fate lists that it is lent.
-    type Fate: Pair<u32>;
+    type Fate: Place<u32, 2>;
     /// A place of the range lists that it is lent.
-    type Stretch: Pair<i64>;
+    type Stretch: Place<i64, 2>;
+    /// A place of the frame lists that it is lent: track, presentation time, decode time, duration,
+    /// flag, size.
+    type Row: Place<i64, 6>;
 
     /// Creates a buffer.
     fn create(&mut self, kinds: &[u32]) -> Result<Self::State, u32>;
@@ -61,6 +65,13 @@ pub trait Subject {
         state: &Self::State,
         list: &mut [Self::Stretch],
     ) -> Result<usize, u32>;
+    /// Lists a track's frames from a segment. No buffer takes part in it.
+    fn list_segment(
+        &mut self,
+        of: SegmentTrack,
+        segment: &[u8],
+        list: &mut [Self::Row],
+    ) -> Result<usize, u32>;
 
     /// The state as it lies, in the words of `second`; not a call of the buffer.
     fn view(&self, state: &Self::State) -> State;
@@ -93,6 +104,7 @@ impl<T: Trace> Subject for Second<T> {
     type State = State;
     type Fate = Fate;
     type Stretch = Stretch;
+    type Row = Row;
 
     fn create(&mut self, kinds: &[u32]) -> Result<State, u32> {
         numbered(second::create(kinds))
@@ -163,6 +175,20 @@ impl<T: Trace> Subject for Second<T> {
 
     fn common_ranges(&mut self, state: &State, list: &mut [Stretch]) -> Result<usize, u32> {
         numbered(second::common_ranges(state, list))
+    }
+
+    fn list_segment(
+        &mut self,
+        of: SegmentTrack,
+        segment: &[u8],
+        list: &mut [Row],
+    ) -> Result<usize, u32> {
+        numbered(second::list_segment_traced(
+            of,
+            segment,
+            list,
+            &mut self.trace,
+        ))
     }
 
     fn view(&self, state: &State) -> State {

@@ -1,11 +1,12 @@
-//! A second implementation of the frame buffer, written from the paper alone.
+//! A second implementation of the frame buffer, written from the paper alone: document 01, and the
+//! change requests of document 02 that have landed.
 //!
 //! It serves as the other party of a comparison and as a yardstick of speed, so it favours plain
 //! code over cleverness: one module for each section of the paper, and the state as one struct
 //! with public fields, so that tests can hand in any state, also a damaged one.
 //!
-//! Every call judges the state first, gives the first refusal that applies in the paper's order,
-//! and leaves state and lent lists alone when it refuses.
+//! Every call on a state judges that first, gives the first refusal that applies in the paper's
+//! order, and leaves state and lent lists alone when it refuses. Listing a segment takes no state.
 
 #![forbid(unsafe_code)]
 
@@ -15,6 +16,7 @@ mod numbers;
 mod ranges;
 mod refusal;
 mod remove;
+mod segment;
 mod settings;
 mod state;
 mod store;
@@ -26,10 +28,11 @@ pub use numbers::{micros, quotient, LONGEST_DURATION, OFFERED_LIMIT, RESULT_LIMI
 pub use ranges::{common_ranges, track_ranges, Stretch};
 pub use refusal::{Cause, Fate, Refusal};
 pub use remove::{abort, remove, remove_traced};
+pub use segment::{list_segment, list_segment_traced, Row, SegmentTrack, FINEST_TIMESCALE};
 pub use settings::{
     read_settings, set_mode, set_offset, set_window_end, set_window_start, End, Reading, Seconds,
     Settings, WindowEnd,
 };
 pub use state::{create, Frame, Head, Maybe, Mode, State, Track, FRAME_PLACES, TRACK_PLACES};
-pub use trace::{Branch, Trace};
+pub use trace::{Branch, Framing, Parent, SegmentBranch, Trace};
 pub use well_formed::{well_formed, Fault};

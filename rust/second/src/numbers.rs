@@ -12,7 +12,7 @@ pub const LONGEST_DURATION: u32 = 10_000_000;
 /// Seconds handed in lie within this, either way.
 pub const SECONDS_LIMIT: f64 = 1_000_000.0;
 
-const MICROS_PER_SECOND: u32 = 1_000_000;
+pub(crate) const MICROS_PER_SECOND: u32 = 1_000_000;
 
 /// Whether a time as offered is within its limits.
 pub(crate) fn offered_time(time: i64) -> bool {

@@ -28,7 +28,7 @@ pub fn common_ranges(state: &State, list: &mut [Stretch]) -> Result<usize, Refus
 
 /// Refusal 10, or the ranges and nothing past them.
 fn hand_out(ranges: &[Stretch], list: &mut [Stretch]) -> Result<usize, Refusal> {
-    let places = list.get_mut(..ranges.len()).ok_or(Refusal::ShortRanges)?;
+    let places = list.get_mut(..ranges.len()).ok_or(Refusal::ShortList)?;
     places.copy_from_slice(ranges);
     Ok(ranges.len())
 }

@@ -9,7 +9,7 @@ pub enum Refusal {
     ShortFates = 2,
     /// The track number is not one of the buffer's.
     UnknownTrack = 3,
-    /// A field of the offered frame is outside its limit.
+    /// A field of the offered frame is outside its limit, or a timescale or a listed frame is.
     OfferedLimits = 4,
     /// A time in seconds is NaN, infinite where it may not be, or beyond the limit.
     Seconds = 5,
@@ -21,10 +21,12 @@ pub enum Refusal {
     Full = 8,
     /// The last frame number is already given.
     NumbersGone = 9,
-    /// The range list has fewer places than there are ranges.
-    ShortRanges = 10,
+    /// The lent list has fewer places than there are ranges, or frames to be listed.
+    ShortList = 10,
     /// Creation with 0 or over 4 tracks, or an unknown kind.
     Creation = 11,
+    /// A segment whose boxes are malformed, or one of them missing, doubled or after a run.
+    Malformed = 12,
 }
 
 impl Refusal {

@@ -1,4 +1,4 @@
-//! The branches of append and remove, told to whoever wants to count them.
+//! The branches of append, remove and the reader of segments, told to whoever wants to count them.
 
 use crate::named::named;
 use crate::well_formed::Fault;
@@ -10,6 +10,12 @@ pub trait Trace {
 
     /// The state failed a clause of the well-formed test.
     fn fault(&mut self, _fault: Fault) {}
+
+    /// A box is read, or malformed, in its parent.
+    fn framed(&mut self, _parent: Parent, _framing: Framing) {}
+
+    /// A branch of the reader of segments is taken.
+    fn segment(&mut self, _branch: SegmentBranch) {}
 }
 
 impl Trace for () {}
@@ -113,5 +119,179 @@ named! {
         RemoveLosesTaken,
         /// removal loses the last decode time by cause 5
         RemoveLosesFollowing,
+    }
+}
+
+named! {
+    /// What holds boxes that are read.
+    Parent {
+        /// the segment
+        Segment,
+        /// the movie fragment
+        MovieFragment,
+        /// a track fragment
+        TrackFragment,
+    }
+}
+
+named! {
+    /// How a box's size stands to its header and its parent. All but the first two are refused 12.
+    Framing {
+        /// a 32-bit size that fits
+        Size,
+        /// a 64-bit size that fits
+        LargeSize,
+        /// under 8 stray bytes
+        Stray,
+        /// size 0
+        SizeZero,
+        /// a size under its header's 8
+        SizeUnderHeader,
+        /// a size that overruns
+        Overruns,
+        /// a 64-bit size that is cut off
+        LargeSizeCut,
+        /// a 64-bit size under its header's 16
+        LargeSizeUnderHeader,
+        /// a 64-bit size that overruns
+        LargeOverruns,
+    }
+}
+
+named! {
+    /// A branch of the reader of segments.
+    SegmentBranch {
+        /// another box skipped in the segment
+        SkippedInSegment,
+        /// another box skipped in the movie fragment
+        SkippedInMovieFragment,
+        /// another box skipped in a track fragment
+        SkippedInTrackFragment,
+        /// 12, no movie fragment
+        MovieFragmentMissing,
+        /// 12, a second movie fragment
+        MovieFragmentDoubled,
+        /// header of its very length
+        HeaderExact,
+        /// header longer than its fields
+        HeaderLonger,
+        /// default duration of the header
+        DurationOfHeader,
+        /// default duration of the call
+        DurationOfCall,
+        /// default size of the header
+        SizeOfHeader,
+        /// default size of the call
+        SizeOfCall,
+        /// default flags of the header
+        FlagsOfHeader,
+        /// default flags of the call
+        FlagsOfCall,
+        /// 12, header short of version, flags and ID
+        HeaderShort,
+        /// 12, header short of an optional field
+        HeaderShortOfOptional,
+        /// 12, header of an unknown version
+        HeaderVersion,
+        /// 12, no header
+        HeaderMissing,
+        /// 12, a second header
+        HeaderDoubled,
+        /// 12, a run before the header
+        RunBeforeHeader,
+        /// another track's fragment
+        OthersFragment,
+        /// another track's fragment with several decode times
+        OthersDecodeTimeDoubled,
+        /// another track's run
+        OthersRun,
+        /// a decode time before the header
+        DecodeTimeBeforeHeader,
+        /// decode time of 32 bits
+        DecodeTime32,
+        /// decode time of 64 bits
+        DecodeTime64,
+        /// 12, decode time short of version and flags
+        DecodeTimeShort,
+        /// 12, decode time short of its 32 bits
+        DecodeTimeShortOf32,
+        /// 12, decode time short of its 64 bits
+        DecodeTimeShortOf64,
+        /// 12, decode time of an unknown version
+        DecodeTimeVersion,
+        /// 12, no decode time
+        DecodeTimeMissing,
+        /// 12, a second decode time
+        DecodeTimeDoubled,
+        /// 12, a run before the decode time
+        RunBeforeDecodeTime,
+        /// a fragment of this track without runs
+        NoRuns,
+        /// run of its very length
+        RunExact,
+        /// run longer than its columns
+        RunLonger,
+        /// 12, run short of version, flags and count
+        RunShort,
+        /// 12, run short of an optional field
+        RunShortOfOptional,
+        /// 12, run short of its columns
+        RunShortOfColumns,
+        /// 12, run of an unknown version
+        RunVersion,
+        /// 4, timescale 0
+        TimescaleZero,
+        /// 4, timescale above 1,000,000
+        TimescaleAbove,
+        /// a sample's own duration
+        DurationOwn,
+        /// a sample's duration by default
+        DurationDefault,
+        /// a sample's own size
+        SizeOwn,
+        /// a sample's size by default
+        SizeDefault,
+        /// a sample's own flags
+        FlagsOwn,
+        /// a sample's flags by default
+        FlagsDefault,
+        /// first flags over the sample's own
+        FirstFlagsOverOwn,
+        /// first flags over the default
+        FirstFlagsOverDefault,
+        /// no composition offset
+        OffsetNone,
+        /// composition offset of version 0
+        OffsetUnsigned,
+        /// composition offset of version 1, not below zero
+        OffsetSigned,
+        /// composition offset of version 1, below zero
+        OffsetBelow,
+        /// frame within its limits
+        Frame,
+        /// frame within its limits, shown below zero
+        FrameBelowZero,
+        /// 4, a decode time beyond the limit at any timescale
+        DecodeBeyondAll,
+        /// 4, a decode time beyond the limit
+        DecodeBeyond,
+        /// 4, a presentation time beyond the limit
+        PresentationBeyond,
+        /// 4, a presentation time below the limit
+        PresentationBelow,
+        /// 4, a frame that lasts nothing
+        DurationNone,
+        /// 4, a frame that lasts too long
+        DurationBeyond,
+        /// list short, a run without columns judged by its first frame and its last
+        Even,
+        /// list short, 4, a run without columns that leads beyond the limit at any timescale
+        EvenBeyondAll,
+        /// 10
+        ListShort,
+        /// lists none
+        ListsNone,
+        /// lists some
+        ListsSome,
     }
 }

@@ -99,8 +99,8 @@ fn reports_give_3_10() {
         let refusal = Err(Refusal::UnknownTrack);
         assert_eq!(track_ranges(&state, track, &mut []), refusal);
     }
-    assert_eq!(track_ranges(&state, 1, &mut []), Err(Refusal::ShortRanges));
-    assert_eq!(common_ranges(&state, &mut []), Err(Refusal::ShortRanges));
+    assert_eq!(track_ranges(&state, 1, &mut []), Err(Refusal::ShortList));
+    assert_eq!(common_ranges(&state, &mut []), Err(Refusal::ShortList));
     assert_eq!(common_ranges(&state, &mut [[0; 2]]), Ok(1));
 }
 

@@ -5,7 +5,7 @@ use native.Mathlib.Omega.{arith}
 use lib.ListN.{length}
 use borrow.Author.Tests.{not-true, not-false}
 use denote.Ref.{now}
-use Rattle.buffer_state.specs.declared.Refusal.the-variants.{IllFormed, ShortRanges}
+use Rattle.buffer_state.specs.declared.Refusal.the-variants.{IllFormed, ShortList}
 use Rattle.buffer_state.specs.Lent.{wellFormedAt}
 use Rattle.ranges.proofs.StoresLaws.{well-formed-stores, well-formed-tracks}
 use Rattle.ranges.proofs.CallLaws.{refused-reported, done-reported, common-ill-formed, common-short, common-reported}
@@ -47,7 +47,7 @@ returns-2 c =
     let b = c .before .before in
     let e = b .before .before .before .before .before in
     let a = e .before .before .args in
-    refused-reported ShortRanges (now (a .list))
+    refused-reported ShortList (now (a .list))
     (common-short (length (now (a .list))) (a .h) (now (a .times)) (now (a .tags)) (well e) (rw (b .common-bars .ensures .count) at (c .if2 .taken)))
 
 slice-aggregate-copy-rows : tie.Need-slice-aggregate-copy-rows

@@ -4,7 +4,7 @@ use mathlib.Core.Bool.{true}
 use lib.ListN.{length}
 use borrow.Author.Tests.{not-true, not-false}
 use denote.Ref.{now}
-use Rattle.buffer_state.specs.declared.Refusal.the-variants.{IllFormed, NoTrack, ShortRanges}
+use Rattle.buffer_state.specs.declared.Refusal.the-variants.{IllFormed, NoTrack, ShortList}
 use Rattle.buffer_state.specs.Lent.{wellFormedAt}
 use Rattle.ranges.proofs.StoresLaws.{well-formed-stores}
 use Rattle.ranges.proofs.CallLaws.{refused-reported, done-reported, track-ill-formed, track-under-one, track-past-last, track-short, track-reported}
@@ -54,7 +54,7 @@ returns-4 c =
     let o = l .before .before in
     let e = o .before in
     let a = e .before .before .args in
-    refused-reported ShortRanges (now (a .list))
+    refused-reported ShortList (now (a .list))
     (track-short (length (now (a .list))) (a .track) (a .h) (now (a .times)) (now (a .tags)) (well e) (o .if2 .left) (l .if3 .left)
     (rw (b .track-bars .ensures .count) at (c .if4 .taken)))
 

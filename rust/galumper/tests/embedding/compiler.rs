@@ -63,22 +63,22 @@ pub fn build(
     }
 }
 
-/// What a program writes that is built as it is released.
-pub fn written(source: &Path, folder: &Path) -> String {
+/// A program that is built as it is released.
+pub fn released(source: &Path, folder: &Path) -> Command {
     let program = folder.join("released");
     build(source, &include(), &program, &[]).unwrap_or_else(|said| panic!("{said}"));
-    output(&program)
+    Command::new(program)
 }
 
-/// What a program writes that is built to end at the first fault, where the compiler can do that.
-pub fn written_watched(source: &Path, include: &Path, folder: &Path) -> String {
+/// A program that is built to end at the first fault, where the compiler can do that.
+pub fn watched(source: &Path, include: &Path, folder: &Path) -> Command {
     let program = folder.join("watched");
     let options: &[&str] = match has_sanitizers(folder) {
         true => &SANITIZED,
         false => &[],
     };
     build(source, include, &program, options).unwrap_or_else(|said| panic!("{said}"));
-    output(&program)
+    Command::new(program)
 }
 
 fn has_sanitizers(folder: &Path) -> bool {
@@ -87,9 +87,14 @@ fn has_sanitizers(folder: &Path) -> bool {
     build(&probe, folder, &folder.join("probe"), &SANITIZED).is_ok()
 }
 
+/// What a program writes that is watched.
+pub fn written_watched(source: &Path, include: &Path, folder: &Path) -> String {
+    output(&mut watched(source, include, folder))
+}
+
 /// What a program writes.
-pub fn output(program: &Path) -> String {
-    let output = Command::new(program).output().expect("a program that runs");
+pub fn output(program: &mut Command) -> String {
+    let output = program.output().expect("a program that runs");
     let said = String::from_utf8_lossy(&output.stderr);
     assert!(output.status.success(), "{program:?}: {said}");
     String::from_utf8(output.stdout).expect("text")

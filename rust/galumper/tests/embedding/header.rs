@@ -53,8 +53,9 @@ fn every_number_is_the_bindings() {
         ("GALUMPER_RESULT_LIMITS", refusal(Refusal::ResultLimits)),
         ("GALUMPER_FULL", refusal(Refusal::Full)),
         ("GALUMPER_LAST_NUMBER", refusal(Refusal::LastNumber)),
-        ("GALUMPER_SHORT_RANGES", refusal(Refusal::ShortRanges)),
+        ("GALUMPER_SHORT_LIST", refusal(Refusal::ShortList)),
         ("GALUMPER_KINDS", refusal(Refusal::Kinds)),
+        ("GALUMPER_MALFORMED", refusal(Refusal::Malformed)),
         ("GALUMPER_BEFORE_WINDOW", cause(Cause::BEFORE_WINDOW)),
         ("GALUMPER_AFTER_WINDOW", cause(Cause::AFTER_WINDOW)),
         ("GALUMPER_NEEDS_POINT", cause(Cause::NEEDS_POINT)),
@@ -86,6 +87,8 @@ fn every_field_stands_where_the_binding_has_it() {
         line!("offered", Offered: track flagged duration pts dts),
         line!("fate", Fate: number cause),
         line!("range", Range: start end),
+        line!("segment_track", SegmentTrack: id track timescale duration size flags),
+        line!("listed_frame", ListedFrame: track pts dts duration flagged size),
     ];
     let written = written_watched(&source("layout.c"), &include(), &folder("layout"));
     assert_eq!(written, lines.concat());

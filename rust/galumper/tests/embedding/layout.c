@@ -21,5 +21,9 @@ int main(void) {
     BYTES(offered);
     NAME(fate), AT(fate, number), AT(fate, cause), BYTES(fate);
     NAME(range), AT(range, start), AT(range, end), BYTES(range);
+    NAME(segment_track), AT(segment_track, id), AT(segment_track, track), AT(segment_track, timescale);
+    AT(segment_track, duration), AT(segment_track, size), AT(segment_track, flags), BYTES(segment_track);
+    NAME(listed_frame), AT(listed_frame, track), AT(listed_frame, pts), AT(listed_frame, dts), AT(listed_frame, duration);
+    AT(listed_frame, flagged), AT(listed_frame, size), BYTES(listed_frame);
     return 0;
 }

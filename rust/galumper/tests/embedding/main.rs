@@ -8,3 +8,4 @@ mod held;
 mod mismatch;
 mod names;
 mod programs;
+mod segment;

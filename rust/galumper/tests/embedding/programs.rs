@@ -1,12 +1,33 @@
-//! The three programs of `docs/EMBEDDING.md`: they stand there word for word, they are built
-//! without a warning, and they write the same.
+//! The programs of `docs/EMBEDDING.md`, each in three languages: they stand there word for word, they
+//! are built without a warning, and all three write the same.
 
 use std::path::{Path, PathBuf};
+use std::process::Command;
 use std::{env, fs};
 
-use crate::compiler::{folder, include, output, repository, written, written_watched};
+use crate::compiler::{folder, include, output, released, repository, watched};
 
-const WRITTEN: &str = "\
+/// A program: its name, the segment that it reads, and what it writes.
+struct Program {
+    name: &'static str,
+    segment: Option<&'static str>,
+    writes: &'static str,
+}
+
+const PROGRAMS: [Program; 2] = [
+    Program {
+        name: "console",
+        segment: None,
+        writes: CONSOLE,
+    },
+    Program {
+        name: "segment",
+        segment: Some("rust/segments/cases/dash.m4s"),
+        writes: SEGMENT,
+    },
+];
+
+const CONSOLE: &str = "\
 41960000: the store is full, 225 frames before second 10 go
 50960000: the store is full, 250 frames before second 20 go
 61960000: the store is full, 250 frames before second 30 go
@@ -18,44 +39,67 @@ held from 61000000 to 80000000
 60500000 is not held
 ";
 
+const SEGMENT: &str = "\
+12 frames of 629 bytes
+held from 560000 to 1040000
+";
+
 fn example(name: &str) -> PathBuf {
     Path::new(env!("CARGO_MANIFEST_DIR"))
         .join("examples")
         .join(name)
 }
 
+impl Program {
+    /// A built one is run, and writes what it shall.
+    fn runs(&self, mut built: Command) {
+        built.args(self.segment.map(|file| repository().join(file)));
+        assert_eq!(output(&mut built), self.writes);
+    }
+
+    /// Its source in a language of the header.
+    fn compiles(&self, ending: &str) {
+        let name = format!("{}.{ending}", self.name);
+        let (source, folder) = (example(&name), folder(&name));
+        self.runs(released(&source, &folder));
+        self.runs(watched(&source, &include(), &folder));
+    }
+}
+
 #[test]
 fn in_c() {
-    let (program, folder) = (example("console.c"), folder("console-c"));
-    assert_eq!(written(&program, &folder), WRITTEN);
-    assert_eq!(written_watched(&program, &include(), &folder), WRITTEN);
+    PROGRAMS.iter().for_each(|program| program.compiles("c"));
 }
 
 #[test]
 fn in_cpp() {
-    let (program, folder) = (example("console.cpp"), folder("console-cpp"));
-    assert_eq!(written(&program, &folder), WRITTEN);
-    assert_eq!(written_watched(&program, &include(), &folder), WRITTEN);
+    PROGRAMS.iter().for_each(|program| program.compiles("cpp"));
 }
 
 #[test]
 fn in_rust() {
     let test = env::current_exe().expect("a path");
     let built = test.parent().and_then(Path::parent).expect("a folder");
-    assert_eq!(output(&built.join("examples/console")), WRITTEN);
+    for program in PROGRAMS {
+        program.runs(Command::new(built.join("examples").join(program.name)));
+    }
 }
 
 #[test]
 fn the_document_has_them_word_for_word() {
     let document = fs::read_to_string(repository().join("docs/EMBEDDING.md")).expect("a document");
-    for name in ["console.c", "console.cpp", "console.rs"] {
-        let program = fs::read_to_string(example(name)).expect("a program");
-        assert!(document.contains(&program), "{name}");
-        assert!(program.lines().count() < 80, "{name} is long");
+    for program in PROGRAMS {
+        for ending in ["c", "cpp", "rs"] {
+            let name = format!("{}.{ending}", program.name);
+            let source = fs::read_to_string(example(&name)).expect("a program");
+            assert!(document.contains(&source), "{name}");
+            assert!(source.lines().count() < 80, "{name} is long");
+        }
+        let lines = program.writes.lines().map(|line| format!("    {line}\n"));
+        assert!(
+            document.contains(&lines.collect::<String>()),
+            "what {} writes",
+            program.name
+        );
     }
-    let indented: String = WRITTEN
-        .lines()
-        .map(|line| format!("    {line}\n"))
-        .collect();
-    assert!(document.contains(&indented), "what they write");
 }

@@ -4,7 +4,7 @@
 #include <stdlib.h>
 
 uint32_t galumper_abi(void) {
-    return 3;
+    return 4;
 }
 
 size_t galumper_size(void) {
@@ -27,3 +27,4 @@ ENDS(set_window_end)
 ENDS(read_settings)
 ENDS(track_ranges)
 ENDS(common_ranges)
+ENDS(list_segment)

@@ -1,12 +1,15 @@
 //! Builds that are wrong in one thing each: the paper's idle ones, and the errors it has met.
-//! Every one of them must be told from `second` within a few scripts.
+//! Every one of them must be told from `second` within a few scripts or segments.
+
+mod segments;
 
 use differential::{run, Failure, Plan};
 use script::{Declined, Poke, Second, Subject};
 use second::{
-    micros, Branch, Fate, Frame, Maybe, Mode, Offered, Reading, State, Stretch, Trace,
-    SECONDS_LIMIT,
+    micros, Branch, Fate, Frame, Maybe, Mode, Offered, Reading, Row, SegmentTrack, State, Stretch,
+    Trace, SECONDS_LIMIT,
 };
+use segments::WrongSegment;
 
 /// What a build does wrongly.
 #[derive(Clone, Copy, Debug, PartialEq, Eq)]
@@ -27,6 +30,7 @@ enum Wrong {
     SparesTheGroup,
     AcceptsDamage,
     DeclinesPokes,
+    Segment(WrongSegment),
 }
 
 /// The build: `second`, and the wrong laid over it.
@@ -62,6 +66,7 @@ impl Subject for Build {
     type State = State;
     type Fate = Fate;
     type Stretch = Stretch;
+    type Row = Row;
 
     fn append(
         &mut self,
@@ -155,6 +160,18 @@ impl Subject for Build {
         }
     }
 
+    fn list_segment(
+        &mut self,
+        of: SegmentTrack,
+        segment: &[u8],
+        list: &mut [Row],
+    ) -> Result<usize, u32> {
+        match self.wrong {
+            Wrong::Segment(wrong) => wrong.list(of, segment, list),
+            _ => self.second.list_segment(of, segment, list),
+        }
+    }
+
     fn poke(&mut self, state: &mut State, poke: &Poke) -> Result<(), Declined> {
         match (self.wrong, poke) {
             (Wrong::DeclinesPokes, Poke::WindowEndDouble(_)) => Err(Declined),
@@ -232,9 +249,14 @@ fn first_pass_only(
 }
 
 fn put_to(wrong: Wrong) -> Result<(), Failure> {
+    let (scripts, segments) = match wrong {
+        Wrong::Segment(_) => (0, 3_000),
+        _ => (3_000, 0),
+    };
     let plan = Plan {
         seed: 0,
-        scripts: 3_000,
+        scripts,
+        segments,
     };
     let mut one: Second = Second::default();
     run(plan, &mut one, &mut Build::new(wrong)).map(|_| ())
@@ -262,6 +284,14 @@ fn every_wrong_build_is_caught_by_a_short_script() {
         let failure = put_to(wrong).expect_err("a difference");
         println!("{wrong:?}: {failure}\n");
         assert!(failure.script.len() <= 8, "{wrong:?}: {failure}");
+    }
+}
+
+#[test]
+fn every_wrong_reader_of_segments_is_caught() {
+    for wrong in WrongSegment::ALL {
+        let failure = put_to(Wrong::Segment(wrong)).expect_err("a difference");
+        println!("{wrong:?}: {failure}\n");
     }
 }
 

@@ -1,0 +1,3 @@
+pub mod BoxLaws
+pub mod FoldLaws
+pub mod LoneLaws

@@ -1,0 +1,4 @@
+pub mod FullBoxes
+pub mod Headers
+pub mod Runs
+pub mod Times

@@ -1,0 +1,10 @@
+pub mod Cited
+pub mod EvenRunLaws
+pub mod FurtherLaws
+pub mod LaidLaws
+pub mod ListedLaws
+pub mod RunLaws
+pub mod SampleLaws
+pub mod Soundings
+pub mod StandLaws
+pub mod WalkLaws
