@@ -1,6 +1,7 @@
--- Document 02, No. 1: boxes of ISO/IEC 14496-12 (4.2), on lists of bytes. A box begins with its size in 4 bytes and its type in 4, both big-endian. Size 1
--- says that the size stands in 8 bytes after the type. The size counts the header. Size 0, which the standard reads as "up to the end", is
--- refused here, and so are a size under its header, a size that overruns what the box stands in, and fewer than 8 stray bytes.
+-- Document 02, No. 1: boxes of ISO/IEC 14496-12 (4.2), on lists of bytes. A box begins with its size in 4 bytes and its type in 4, both
+-- big-endian. Size 1 says that the size stands in 8 bytes after the type. The size counts the header. Size 0, which the standard reads as
+-- "up to the end", is refused here, and so are a size under its header, a size that overruns what the box stands in, and fewer than 8
+-- stray bytes.
 use mathlib.Core.Bool.{cond}
 use mathlib.Core.List.{List, [], _∷_}
 use Prim.Native.Nat.{ℕ, zero, suc, _+_, _*_, _-_}
@@ -59,7 +60,7 @@ abbrev pub onto : Box → Boxes → Boxes
 onto x refused = refused
 onto x (boxes l) = boxes (x ∷ l)
 
--- the box of this head at the front of s, with its body from the body's first byte to its end
+-- the box of this header at the front of s, with its body from the body's first byte to its end
 abbrev pub boxOf : List ℕ → Header → Box
 boxOf s h = record { kind = h .kind; body = take (h .size - h .length) (drop (h .length) s) }
 

@@ -28,6 +28,7 @@ abbrev pub loneIn : ℕ → ℕ → Boxes → Lone
 loneIn k r refused = none
 loneIn k r (boxes l) = loneOf k r l
 
+-- where it is, if it was found
 abbrev pub partOf : Bool → ℕ → ℕ → Part
 partOf found a z = cond found (part.Is a z) part.None
 

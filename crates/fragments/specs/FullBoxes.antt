@@ -7,11 +7,11 @@ use lib.ListN.{drop}
 use lib.Dec.{eqb}
 use Rattle.boxes.specs.Boxes.{be4}
 
--- of the first four bytes as one number
+-- the version, where the first four bytes are one number, a word
 abbrev pub versionOf : ℕ → ℕ
 versionOf word = word / 16777216
 
--- whether a flag is set; a flag is named by its value: 1, 2, 4, 8 and so on
+-- whether a flag of the word is set; a flag is named by its value: 1, 2, 4, 8 and so on
 abbrev pub flagIn : ℕ → ℕ → Bool
 flagIn word flag = eqb (word / flag % 2) 1
 

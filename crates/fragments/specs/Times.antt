@@ -10,6 +10,7 @@ use Rattle.fragments.specs.FullBoxes.{versionOf}
 use Rattle.fragments.specs.declared.ReadTime.{ReadTime}
 use Rattle.fragments.specs.declared.ReadTime.the-variants.{Bad, At}
 
+-- by the version; there are 8 bytes at least
 unfoldable pub timeBy : List ℕ → ℕ → ReadTime
 timeBy b version =
     cond (eqb version 0) (At (be4 (drop 4 b)))

@@ -1,7 +1,7 @@
 -- A run without columns: each of its samples has the default duration and no composition offset, so that it is decided by its ends; and
 -- of its rows only those are written for which there is a place. Assumes nothing.
 use mathlib.Core.Path.{_≡_, refl, sym, ap, _∙_, subst}
-use mathlib.Core.Bool.{Bool, true, false, cond, _&&_}
+use mathlib.Core.Bool.{Bool, true, false, cond, and-false}
 use mathlib.Core.List.{List, [], _∷_, _++_, append-assoc}
 use Prim.Native.Nat.{ℕ, zero, suc, _+_, _*_, _-_, _≤_}
 use native.Mathlib.Omega.{arith}
@@ -111,11 +111,7 @@ module _ (of : SegmentTrack) (write : Bool) (before : List (List ℤ)) (l : List
 
   -- a run with a sample outside its limits
   pub run-lost : allOf (inLimits (of .timescale)) all ≡ false → Standing of write before (l ++ all) lostWalk list
-  run-lost e = lost-stands of write before (l ++ all) list (both-in (of .timescale) l all ∙ rw e (go (allInLimits (of .timescale) l))) (st .judging) (st .places)
-    where
-      go : (x : Bool) → x && false ≡ false
-      go true = refl
-      go false = refl
+  run-lost e = lost-stands of write before (l ++ all) list (both-in (of .timescale) l all ∙ rw e (and-false (allInLimits (of .timescale) l))) (st .judging) (st .places)
 
   module _ (n : ℕ) (most : n ≤ r .count) where
     abbrev firsts : List Sample

@@ -1,6 +1,6 @@
 -- Samples one after another: their limits, their time and their rows. Assumes nothing.
 use mathlib.Core.Path.{_≡_, refl, sym, ap, _∙_}
-use mathlib.Core.Bool.{Bool, true, false, _&&_}
+use mathlib.Core.Bool.{Bool, true, false, _&&_, and-true, and-false, and-assoc}
 use mathlib.Core.List.{List, [], _∷_, _++_}
 use Prim.Native.Nat.{ℕ, _+_}
 use native.Mathlib.Omega.{arith}
@@ -15,10 +15,6 @@ use Rattle.segments.specs.Segments.{allInLimits, rowsOf}
 use Rattle.segments.specs.declared.SegmentTrack.{SegmentTrack}
 
 -- ---- limits
-
-and-assoc : (a b c : Bool) → (a && b) && c ≡ a && (b && c)
-and-assoc true b c = refl
-and-assoc false b c = refl
 
 pub all-both : (p : Sample → Bool) (l m : List Sample) → allOf p (l ++ m) ≡ (allOf p l && allOf p m)
 unfolding allOf
@@ -36,11 +32,7 @@ module _ (scale : ℕ) where
 
   pub none-in : goodScale scale ≡ allInLimits scale []
   unfolding allInLimits allOf
-  none-in = go (goodScale scale)
-    where
-      go : (b : Bool) → b ≡ b && true
-      go true = refl
-      go false = refl
+  none-in = sym (and-true (goodScale scale))
 
   -- more samples in their limits
   pub more-in : (l m : List Sample) → allInLimits scale l ≡ true → allOf (inLimits scale) m ≡ true → allInLimits scale (l ++ m) ≡ true
@@ -53,11 +45,7 @@ module _ (scale : ℕ) where
   -- one sample that is outside
   pub one-out : (l : List Sample) (s : Sample) → inLimits scale s ≡ false → allInLimits scale (l ++ (s ∷ [])) ≡ false
   unfolding allOf
-  one-out l s p = both-in l (s ∷ []) ∙ rw p (go (allInLimits scale l))
-    where
-      go : (b : Bool) → b && false ≡ false
-      go true = refl
-      go false = refl
+  one-out l s p = both-in l (s ∷ []) ∙ rw p (and-false (allInLimits scale l))
 
   pub one-in : (s : Sample) → inLimits scale s ≡ true → allOf (inLimits scale) (s ∷ []) ≡ true
   unfolding allOf

@@ -75,6 +75,7 @@ abbrev pub headerIn : Defaults → Lone → ReadHeader
 headerIn d none = header.Bad
 headerIn d (lone b) = headerOf d b
 
+-- its runs from that time on
 abbrev pub runsBy : Defaults → List ℕ → ReadTime → Listing
 runsBy d b time.Bad = malformed
 runsBy d b (time.At t) = runsFrom d t b
