@@ -6,8 +6,8 @@
  *
  * Any bits may be handed in. A buffer that is not well-formed has the call refused 1; an offered frame whose flag is neither 0
  * nor 1 has it refused 4; a segment that is not well-formed has it refused 12. What the caller owes is that each list and each
- * segment has the places that its length says, that a list lies outside the buffer and the segment, and that nothing else touches
- * what is lent during the call. A list or a segment of length 0 may be a null pointer.
+ * segment has the places that its length says, that a list lies outside the buffer, the segment and any other list, and that nothing
+ * else touches what is lent during the call. A list or a segment of length 0 may be a null pointer.
  *
  * The library has no state of its own: different buffers may be used by different threads at once; one buffer is changed by one
  * thread at a time, and calls that take it as const may run side by side.
@@ -27,10 +27,10 @@ extern "C" {
 #endif
 
 /* The version of this header, of its library and of the Rust crate. */
-#define GALUMPER_VERSION "0.3.0"
+#define GALUMPER_VERSION "0.4.0"
 
 /* By these two a library belongs to this header: the number of its layout and functions, and the bytes of a galumper_buffer. */
-#define GALUMPER_ABI 3
+#define GALUMPER_ABI 4
 #define GALUMPER_SIZE 32968
 
 /* The places of the store over all tracks. */
@@ -39,8 +39,12 @@ extern "C" {
 /* The most tracks of a buffer. */
 #define GALUMPER_TRACKS 4
 
-/* The lines that a fate list needs. */
+/* The lines that the fate list of an append or a removal needs. */
 #define GALUMPER_FATES 1024
+
+/* The most frames of a batch, and the lines that its fate list needs: a store's and one for each of its frames. */
+#define GALUMPER_BATCH 64
+#define GALUMPER_BATCH_FATES 1088
 
 /* So many places of a range list are always enough, for a track's ranges (never more than its stored frames) and for the common
  * ranges. */
@@ -63,7 +67,7 @@ enum galumper_mode {
 enum galumper_refusal {
     GALUMPER_DONE = 0,          /* not refused */
     GALUMPER_ILL_FORMED = 1,    /* the buffer is not well-formed */
-    GALUMPER_SHORT_FATES = 2,   /* a fate list of fewer than 1,024 lines */
+    GALUMPER_SHORT_FATES = 2,   /* a fate list of fewer than 1,024 lines, or 1,088 for a batch */
     GALUMPER_NO_TRACK = 3,      /* a track that the buffer does not have */
     GALUMPER_FRAME_LIMITS = 4,  /* a field of a frame, offered or read from a segment, outside its limit, or such a timescale */
     GALUMPER_SECONDS = 5,       /* a double that is NaN, infinite where it may not be, or beyond 1,000,000 either way */
@@ -75,6 +79,7 @@ enum galumper_refusal {
     GALUMPER_KINDS = 11,        /* creation with no track, more than four, or an unknown kind */
     GALUMPER_MALFORMED = 12,    /* a segment with a box that overruns, is too short, has size 0 or an unknown version; or with a movie
                                  * fragment, a track fragment's header or a decode time missing, doubled or after a run */
+    GALUMPER_LENT_SIZE = 13,    /* what is lent has a size that the call does not take: a batch of more than 64 frames */
     /* This header's own answer to a creation, and none of the library's: header and library do not belong together. */
     GALUMPER_OTHER_LAYOUT = 255
 };
@@ -193,6 +198,15 @@ typedef struct galumper_answer {
     size_t count;
 } galumper_answer;
 
+/* What appending a batch answers: an enum galumper_refusal for the call, one for the frame that stopped it (GALUMPER_DONE where none
+ * did), how many frames were accepted, and how many lines were written to the fate list. Lines past these are not touched. */
+typedef struct galumper_batch {
+    uint32_t refusal;
+    uint32_t stop;
+    size_t accepted;
+    size_t count;
+} galumper_batch;
+
 /* What reading the settings answers. `end` is 0.0 where `bounded` is 0. */
 typedef struct galumper_reading {
     uint32_t refusal;
@@ -209,12 +223,20 @@ typedef struct galumper_answered {
     galumper_answer answer;
 } galumper_answered;
 
+typedef struct galumper_batched {
+    galumper_head head;
+    galumper_batch answer;
+} galumper_batched;
+
 uint32_t galumper_abi(void);
 size_t galumper_size(void);
 galumper_answered galumper_lent_create(const uint8_t *kinds, size_t ntracks, int64_t times[GALUMPER_PLACES][2],
                                        uint32_t tags[GALUMPER_PLACES][4]);
 galumper_answered galumper_lent_append(galumper_head head, galumper_offered frame, int64_t times[GALUMPER_PLACES][2],
                                        uint32_t tags[GALUMPER_PLACES][4], galumper_fate *fates, size_t lines);
+galumper_batched galumper_lent_append_batch(galumper_head head, const galumper_listed_frame *frames, size_t nframes,
+                                            int64_t times[GALUMPER_PLACES][2], uint32_t tags[GALUMPER_PLACES][4],
+                                            galumper_fate *fates, size_t lines);
 galumper_answered galumper_lent_remove(galumper_head head, double start, double end, int64_t times[GALUMPER_PLACES][2],
                                        uint32_t tags[GALUMPER_PLACES][4], galumper_fate *fates, size_t lines);
 galumper_answered galumper_lent_abort(galumper_head head, const int64_t times[GALUMPER_PLACES][2],
@@ -258,6 +280,8 @@ GALUMPER_LAID_OUT(sizeof(galumper_fate) == 8 && sizeof(galumper_range) == 16);
 GALUMPER_LAID_OUT(sizeof(galumper_segment_track) == 24 && sizeof(galumper_listed_frame) == 48);
 GALUMPER_LAID_OUT(sizeof(galumper_answer) == 16 && offsetof(galumper_answer, count) == 8);
 GALUMPER_LAID_OUT(sizeof(galumper_answered) == 216);
+GALUMPER_LAID_OUT(sizeof(galumper_batch) == 24 && offsetof(galumper_batch, stop) == 4 && offsetof(galumper_batch, accepted) == 8);
+GALUMPER_LAID_OUT(sizeof(galumper_batched) == 224);
 GALUMPER_LAID_OUT(sizeof(galumper_reading) == 32 && offsetof(galumper_reading, offset) == 8);
 #undef GALUMPER_LAID_OUT
 
@@ -292,6 +316,23 @@ static inline galumper_answer galumper_create(galumper_buffer *buffer, const uin
 static inline galumper_answer galumper_append(galumper_buffer *buffer, galumper_offered frame, galumper_fate *fates, size_t lines) {
     galumper_fate none;
     return galumper_kept(buffer, galumper_lent_append(buffer->head, frame, buffer->times, buffer->tags, lines ? fates : &none, lines));
+}
+
+/* Appends the frames of a list in its order, at most GALUMPER_BATCH rows as galumper_list_segment writes them, each as galumper_append
+ * does; their fate lines follow each other in `fates`, and `lines` is at least GALUMPER_BATCH_FATES. It stops at the first frame that an
+ * append refuses (3, 4, 9, 7, 8): that is no refusal of the call, the frame alone changes nothing, and the frames accepted before it stay.
+ * A track that no uint32_t holds is one that the buffer does not have, and such a duration is outside its limit, as is a flag that is
+ * neither 0 nor 1; the size is not looked at. Refused 1, 13, 2, also for an empty list, which else changes nothing. */
+static inline galumper_batch galumper_append_batch(galumper_buffer *buffer, const galumper_listed_frame *frames, size_t nframes,
+                                                   galumper_fate *fates, size_t lines) {
+    const galumper_listed_frame empty = {0, 0, 0, 0, 0, 0};
+    galumper_fate none;
+    const galumper_batched batched = galumper_lent_append_batch(buffer->head, nframes ? frames : &empty, nframes, buffer->times,
+                                                                buffer->tags, lines ? fates : &none, lines);
+    if (batched.answer.refusal == GALUMPER_DONE) {
+        buffer->head = batched.head;
+    }
+    return batched.answer;
 }
 
 /* Removes, on each track, the frames that begin from `start` up to the first random access point at or after `end` (in seconds), and
@@ -387,7 +428,7 @@ static inline const char *galumper_refusal_name(uint32_t refusal) {
     switch (refusal) {
     case GALUMPER_DONE: return "done";
     case GALUMPER_ILL_FORMED: return "the buffer is not well-formed";
-    case GALUMPER_SHORT_FATES: return "the fate list has fewer than 1,024 lines";
+    case GALUMPER_SHORT_FATES: return "the fate list has too few lines";
     case GALUMPER_NO_TRACK: return "the buffer has no such track";
     case GALUMPER_FRAME_LIMITS: return "a frame or timescale is outside the limits";
     case GALUMPER_SECONDS: return "the seconds do not convert to microseconds";
@@ -398,6 +439,7 @@ static inline const char *galumper_refusal_name(uint32_t refusal) {
     case GALUMPER_SHORT_LIST: return "the list has too few places";
     case GALUMPER_KINDS: return "no track, more than four, or an unknown kind";
     case GALUMPER_MALFORMED: return "the segment is not well-formed";
+    case GALUMPER_LENT_SIZE: return "what is lent has a size that the call does not take";
     case GALUMPER_OTHER_LAYOUT: return "header and library do not belong together";
     default: return "unknown refusal";
     }

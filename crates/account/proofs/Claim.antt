@@ -19,7 +19,8 @@ use Rattle.buffer_state.specs.declared.Changed.{Changed}
 use Rattle.buffer_state.specs.declared.Head.{Head}
 use Rattle.buffer_state.specs.declared.Mode.{Mode}
 use Rattle.buffer_state.specs.declared.Offered.{Offered}
-use Rattle.buffer_state.specs.Answers.{changed, zeroHead, createAnswer, timesCreated, tagsCreated, abortAnswer, modeAnswer, offsetAnswer, windowStartAnswer, windowEndAnswer, settingsAnswer, counted, timesAfter, tagsAfter, listAfter, appendResult, removeResult, rangeCount, rangesAfter, trackRangesResult, commonRangesResult}
+use Rattle.buffer_state.specs.Answers.{changed, zeroHead, createAnswer, timesCreated, tagsCreated, abortAnswer, modeAnswer, offsetAnswer, windowStartAnswer, windowEndAnswer, settingsAnswer, counted, timesAfter, tagsAfter, listAfter, appendResult, removeResult, batched, outcomeOf, batchResult, rangeCount, rangesAfter, trackRangesResult, commonRangesResult}
+use Rattle.buffer_state.specs.Batch.{offeredIn}
 use Rattle.buffer_state.specs.Buffer.{Buffer, fresh}
 use Rattle.buffer_state.specs.Lent.{Lent, lentOf, bufferIn}
 use Rattle.buffer_state.specs.Limits.{mostTracks, knownKind}
@@ -33,9 +34,9 @@ use Rattle.buffer_laws.proofs.LentLaws.{held-back}
 use Rattle.buffer_laws.proofs.RunLaws.{reply-lawful, run-lawful}
 use Rattle.buffer_laws.proofs.SettingLaws.{created-good}
 use Rattle.buffer_laws.proofs.TestLaws.{all-none}
-use Rattle.account.specs.Made.{Given, append, remove, abort, setMode, setOffset, setWindowStart, setWindowEnd, readSettings, trackRanges, commonRanges, asked, Back, Made, calls, entries, AllKept}
-use Rattle.account.specs.History.{From, none, by-append, by-remove, by-abort, by-mode, by-offset, by-window-start, by-window-end, by-reading, by-track-ranges, by-common-ranges, History, from, Account, Claim, Happens}
-use Rattle.account.proofs.StepLaws.{Agrees, append-agrees, remove-agrees, abort-agrees, mode-agrees, offset-agrees, window-start-agrees, window-end-agrees, reading-agrees, track-ranges-agrees, common-ranges-agrees}
+use Rattle.account.specs.Made.{Given, append, remove, abort, setMode, setOffset, setWindowStart, setWindowEnd, readSettings, trackRanges, commonRanges, batch, asked, Back, Made, calls, entries, AllKept}
+use Rattle.account.specs.History.{From, none, by-append, by-remove, by-abort, by-mode, by-offset, by-window-start, by-window-end, by-reading, by-track-ranges, by-common-ranges, by-batch, History, from, Account, Claim, Happens}
+use Rattle.account.proofs.StepLaws.{Agrees, append-agrees, remove-agrees, abort-agrees, mode-agrees, offset-agrees, window-start-agrees, window-end-agrees, reading-agrees, track-ranges-agrees, common-ranges-agrees, batch-agrees}
 use Rattle.settings.proofs.create.Reads as Create
 use Rattle.settings.proofs.abort.Reads as Abort
 use Rattle.settings.proofs.set_mode.Reads as SetMode
@@ -44,6 +45,7 @@ use Rattle.settings.proofs.set_window_start.Reads as SetWindowStart
 use Rattle.settings.proofs.set_window_end.Reads as SetWindowEnd
 use Rattle.settings.proofs.read_settings.Reads as ReadSettings
 use Rattle.append.proofs.append.Reads as Append
+use Rattle.batch.proofs.append_batch.Reads as Batch
 use Rattle.remove.proofs.remove.Reads as Remove
 use Rattle.ranges.proofs.track_ranges.Reads as TrackRanges
 use Rattle.ranges.proofs.common_ranges.Reads as CommonRanges
@@ -55,6 +57,7 @@ use Rattle.settings.proofs.set_window_start.Statement as SetWindowStartSays
 use Rattle.settings.proofs.set_window_end.Statement as SetWindowEndSays
 use Rattle.settings.proofs.read_settings.Statement as ReadSettingsSays
 use Rattle.append.proofs.append.Statement as AppendSays
+use Rattle.batch.proofs.append_batch.Statement as BatchSays
 use Rattle.remove.proofs.remove.Statement as RemoveSays
 use Rattle.ranges.proofs.track_ranges.Statement as TrackRangesSays
 use Rattle.ranges.proofs.common_ranges.Statement as CommonRangesSays
@@ -66,19 +69,20 @@ use Rattle.settings.proofs.set_window_start.Met as SetWindowStartMet
 use Rattle.settings.proofs.set_window_end.Met as SetWindowEndMet
 use Rattle.settings.proofs.read_settings.Met as ReadSettingsMet
 use Rattle.append.proofs.append.Met as AppendMet
+use Rattle.batch.proofs.append_batch.Met as BatchMet
 use Rattle.remove.proofs.remove.Met as RemoveMet
 use Rattle.ranges.proofs.track_ranges.Met as TrackRangesMet
 use Rattle.ranges.proofs.common_ranges.Met as CommonRangesMet
 
 -- ---- every history is the plain run
 
-record Plain (b : Buffer) (ms : List Made) (t : Lent) : Type 0 where
+pub record Plain (b : Buffer) (ms : List Made) (t : Lent) : Type 0 where
   pub results : entries ms ≡ run b (calls ms)
   pub state : t ≡ lentOf (lastOf b (calls ms))
   pub kept : AllKept ms
 
 -- on from any good buffer
-abbrev Plainly : Lent → List Made → Lent → Type 0
+abbrev pub Plainly : Lent → List Made → Lent → Type 0
 Plainly s ms t = (b : Buffer) → goodBuffer b ≡ true → s ≡ lentOf b → Plain b ms t
 
 reply-good : (c : Call) (b : Buffer) → goodBuffer b ≡ true → goodBuffer (replyTo c b .after) ≡ true
@@ -96,7 +100,7 @@ more {b} {g} {back} {s} {t} {ms} good a k =
       kept = (a .kept, rest .kept);
     }
 
-plain : {s t : Lent} {ms : List Made} → From s ms t → Plainly s ms t
+pub plain : {s t : Lent} {ms : List Made} → From s ms t → Plainly s ms t
 unfolding run lastOf
 plain none b good e = record { results = refl; state = e; kept = tt }
 plain (by-append f times tags lent r ts gs after κs h k) b good e = more good (append-agrees b good _ e f (now lent) r ts gs after h) (λ c g d. plain k c g d)
@@ -109,6 +113,7 @@ plain (by-window-end x times tags r κs h k) b good e = more good (window-end-ag
 plain (by-reading times tags r κs h k) b good e = more good (reading-agrees b good _ e r h) (λ c g d. plain k c g d)
 plain (by-track-ranges track times tags lent r after κs h k) b good e = more good (track-ranges-agrees b good _ e track (now lent) after r h) (λ c g d. plain k c g d)
 plain (by-common-ranges times tags lent r after κs h k) b good e = more good (common-ranges-agrees b good _ e (now lent) after r h) (λ c g d. plain k c g d)
+plain (by-batch rows times tags lent r ts gs after κs h k) b good e = more good (batch-agrees b good _ e (now rows) (now lent) r ts gs after h) (λ c g d. plain k c g d)
 
 -- ---- a creation that was not refused
 
@@ -191,6 +196,9 @@ two = ([], ([], tt))
 abbrev pub three : Lfts 3
 three = ([], ([], ([], tt)))
 
+abbrev pub four : Lfts 4
+four = ([], three)
+
 record Onward (s : Lent) (gs : List Given) : Type 0 where
   pub made : List Made
   pub same : map (λ (m : Made). m .given) made ≡ gs
@@ -245,6 +253,11 @@ onward s (trackRanges track d ∷ gs) =
 onward s (commonRanges d ∷ gs) =
     let x = commonRangesResult (length d) (s .head) (s .times) (s .tags) in
     first {u = s} (λ ms t k. by-common-ranges (lend (s .times)) (lend (s .tags)) (lend d) (rangeCount x) (rangesAfter x d) three (record { answer = refl; list = refl }) k) (onward s gs)
+onward s (batch rows d ∷ gs) =
+    let x = batchResult (length d) (map offeredIn rows) (s .head) (s .times) (s .tags) in
+    let o = outcomeOf x in
+    let u : Lent = record { head = batched (s .head) x .head; times = timesAfter o (s .times); tags = tagsAfter o (s .tags) } in
+    first {u = u} (λ ms t k. by-batch (lend rows) (lend (s .times)) (lend (s .tags)) (lend d) (batched (s .head) x) (u .times) (u .tags) (listAfter o d) four (refl, (refl, (refl, refl))) k) (onward u gs)
 
 -- whatever the arrays held before the creation
 pub some-history : (kinds : List ℕ) (ts : List (List ℤ)) (fs : List (List ℕ)) (gs : List Given) → create kinds ≡ done (fresh kinds) → Happens kinds gs
@@ -263,19 +276,20 @@ some-history kinds ts fs gs made =
 -- ---- it has no hidden door
 
 -- no call asks anything of its caller
-pub free : (κs : Lfts 2) (λs : Lfts 3) (h : Head) (f : Offered) (m : Mode) (x y : Float) (track : ℕ) (kinds : RefT (List ℕ))
-    (times : RefT (List (List ℤ))) (tags : RefT (List (List ℕ))) (fates : RefT (List (List ℕ))) (list : RefT (List (List ℤ)))
+pub free : (κs : Lfts 2) (λs : Lfts 3) (μs : Lfts 4) (h : Head) (f : Offered) (m : Mode) (x y : Float) (track : ℕ) (kinds : RefT (List ℕ))
+    (times : RefT (List (List ℤ))) (tags : RefT (List (List ℕ))) (fates : RefT (List (List ℕ))) (list rows : RefT (List (List ℤ)))
     → Create.Asked λs (kinds, (times, (tags, tt))) × Append.Asked λs (h, (f, (times, (tags, (fates, tt)))))
     × Remove.Asked λs (h, (x, (y, (times, (tags, (fates, tt)))))) × Abort.Asked κs (h, (times, (tags, tt)))
     × SetMode.Asked κs (h, (times, (tags, (m, tt)))) × SetOffset.Asked κs (h, (times, (tags, (x, tt))))
     × SetWindowStart.Asked κs (h, (times, (tags, (x, tt)))) × SetWindowEnd.Asked κs (h, (times, (tags, (x, tt))))
     × ReadSettings.Asked κs (h, (times, (tags, tt))) × TrackRanges.Asked λs (h, (times, (tags, (track, (list, tt)))))
-    × CommonRanges.Asked λs (h, (times, (tags, (list, tt))))
-free κs λs h f m x y track kinds times tags fates list = (tt, tt, tt, tt, tt, tt, tt, tt, tt, tt, tt)
+    × CommonRanges.Asked λs (h, (times, (tags, (list, tt)))) × Batch.Asked μs (h, (rows, (times, (tags, (fates, tt)))))
+free κs λs μs h f m x y track kinds times tags fates list rows = (tt, tt, tt, tt, tt, tt, tt, tt, tt, tt, tt, tt)
 
 -- the running code meets the contracts of which a history is made
 pub code-meets : {M : Type 1}
     → CreateSays.statement M × AppendSays.statement M × RemoveSays.statement M × AbortSays.statement M
     × SetModeSays.statement M × SetOffsetSays.statement M × SetWindowStartSays.statement M × SetWindowEndSays.statement M
     × ReadSettingsSays.statement M × TrackRangesSays.statement M × CommonRangesSays.statement M
-code-meets = (CreateMet.met, AppendMet.met, RemoveMet.met, AbortMet.met, SetModeMet.met, SetOffsetMet.met, SetWindowStartMet.met, SetWindowEndMet.met, ReadSettingsMet.met, TrackRangesMet.met, CommonRangesMet.met)
+    × BatchSays.statement M
+code-meets = (CreateMet.met, AppendMet.met, RemoveMet.met, AbortMet.met, SetModeMet.met, SetOffsetMet.met, SetWindowStartMet.met, SetWindowEndMet.met, ReadSettingsMet.met, TrackRangesMet.met, CommonRangesMet.met, BatchMet.met)

@@ -1,5 +1,5 @@
 -- What a call's contract says on the state that holds a good buffer, in the run's words: the run's reply on that buffer.
-use mathlib.Core.Path.{_≡_, refl, sym, ap, ap₂, _∙_}
+use mathlib.Core.Path.{_≡_, refl, sym, ap, _∙_}
 use mathlib.Core.Bool.{true}
 use mathlib.Core.List.{List, [], _∷_, _++_, map}
 use Prim.Native.Nat.{ℕ}
@@ -7,6 +7,7 @@ use lib.IntN.{ℤ}
 use lib.Ieee.{Float}
 use lib.ListN.{length, take, drop, length-map}
 use lib.Seq.{take-at}
+use Rattle.buffer_state.specs.declared.Batched.{Batched}
 use Rattle.buffer_state.specs.declared.Changed.{Changed}
 use Rattle.buffer_state.specs.declared.Count.{Count}
 use Rattle.buffer_state.specs.declared.Counted.{Counted}
@@ -15,25 +16,27 @@ use Rattle.buffer_state.specs.declared.Offered.{Offered}
 use Rattle.buffer_state.specs.declared.Read.{Read}
 use Rattle.buffer_state.specs.declared.WindowEnd.{WindowEnd}
 use Rattle.buffer_state.specs.declared.WindowEnd.the-variants.{Unbounded, At}
-use Rattle.buffer_state.specs.Answers.{changed, abortAnswer, modeAnswer, offsetAnswer, windowStartAnswer, windowEndAnswer, readWith, read, settingsAnswer, counted, timesAfter, tagsAfter, listAfter, appendResult, removeResult, rangeCount, rangesAfter, trackRangesResult, commonRangesResult}
+use Rattle.buffer_state.specs.Answers.{changed, abortAnswer, modeAnswer, offsetAnswer, windowStartAnswer, windowEndAnswer, readWith, read, settingsAnswer, counted, timesAfter, tagsAfter, listAfter, appendResult, removeResult, batched, outcomeOf, batchResult, rangeCount, rangesAfter, trackRangesResult, commonRangesResult}
 use Rattle.buffer_state.specs.Append as Append
 use Rattle.buffer_state.specs.Append.{Outcome}
+use Rattle.buffer_state.specs.Batch as Batch
+use Rattle.buffer_state.specs.Batch.{offeredIn}
 use Rattle.buffer_state.specs.Buffer.{Buffer, withFrames}
 use Rattle.buffer_state.specs.Lent.{Lent, headOf, timesIn, tagsIn, lentOf, onLent}
 use Rattle.buffer_state.specs.Ranges as Ranges
 use Rattle.buffer_state.specs.Ranges.{Range}
 use Rattle.buffer_state.specs.Refusals.{Result, refused, done}
 use Rattle.buffer_state.specs.Remove as Remove
-use Rattle.buffer_state.specs.Run.{fates, settings, ranges, byOutcome, bySetting, byRanges, replyTo}
+use Rattle.buffer_state.specs.Run.{fates, settings, ranges, accepted, byOutcome, bySetting, byRanges, byBatch, replyTo}
 use Rattle.buffer_state.specs.Settings.{aborted, modeSet, offsetSet, windowStartSet, windowEndSet, reading}
 use Rattle.buffer_state.specs.Store.{Line}
 use Rattle.buffer_state.specs.WellFormed.{goodBuffer}
-use Rattle.buffer_laws.proofs.AnswerLaws.{Leaves}
+use Rattle.buffer_laws.proofs.AnswerLaws.{Leaves, LeavesBatch}
 use Rattle.buffer_laws.proofs.LentLaws.{on-laid-out}
 use Rattle.buffer_laws.proofs.SettingLaws as Setting
 use Rattle.buffer_laws.proofs.SettingLaws.{IfDone, aborted-good, aborted-untouched, mode-good, mode-untouched, offset-set, window-start-set, window-end-set}
 use Rattle.ranges.specs.Bars.{Reported}
-use Rattle.account.specs.Made.{Given, append, remove, abort, setMode, setOffset, setWindowStart, setWindowEnd, readSettings, trackRanges, commonRanges, asked, Back, lineOf, rangeOf, linesOf, rangesOf, changeOf, readingOf, resultOf, Kept, KeptBy}
+use Rattle.account.specs.Made.{Given, append, remove, abort, setMode, setOffset, setWindowStart, setWindowEnd, readSettings, trackRanges, commonRanges, batch, asked, Back, lineOf, rangeOf, linesOf, joinedOf, rangesOf, changeOf, readingOf, resultOf, writtenLines, KeptPast, Kept, KeptBy}
 
 -- a call made on a state agrees with the run's reply: its result, the state that it leaves, what stays of a lent list
 pub record Agrees (b : Buffer) (g : Given) (back : Back g) (s : Lent) : Type 0 where
@@ -59,6 +62,10 @@ module _ {A B : Type 0} (f : A → B) (g : B → A) (e : (x : A) → g (f x) ≡
 
 -- ---- what the answers of one kind say, for any result
 
+-- a line as it is written
+abbrev line : Line → List ℕ
+line l = l .number ∷ l .cause ∷ []
+
 -- append and remove
 record Lined (b : Buffer) (x : Result Outcome) (lent : List (List ℕ)) (r : Counted) (ts : List (List ℤ)) (gs after : List (List ℕ)) : Type 0 where
   pub result : linesOf (record { answer = r .answer; after = after }) (r .answer) ≡ byOutcome b x .result
@@ -69,13 +76,29 @@ lined : (b : Buffer) (x : Result Outcome) (lent : List (List ℕ))
     → Lined b x lent (counted (headOf b) x) (timesAfter x (timesIn b)) (tagsAfter x (tagsIn b)) (listAfter x lent)
 lined b (refused why) lent = record { result = refl; state = refl; kept = refl }
 lined b (done o) lent =
-    let line : Line → List ℕ = λ l. l .number ∷ l .cause ∷ [] in
     let ls = o .lines in
     let rest = drop (length ls) lent in
     record {
       result = ap (λ (l : List Line). done (fates l)) (read-back line lineOf (λ x. refl) ls rest);
       state = refl;
       kept = stays line lineOf (λ x. refl) ls rest;
+    }
+
+-- a batch
+record Joint (b : Buffer) (x : Result Batch.Batch) (lent : List (List ℕ)) (r : Batched) (ts : List (List ℤ)) (gs after : List (List ℕ)) : Type 0 where
+  pub result : joinedOf (record { answer = r .answer; after = after }) (r .answer) ≡ byBatch b x .result
+  pub state : _≡_ {A = Lent} (record { head = r .head; times = ts; tags = gs }) (lentOf (byBatch b x .after))
+  pub kept : KeptPast (writtenLines (r .answer)) lent after
+
+joint : (b : Buffer) (x : Result Batch.Batch) (lent : List (List ℕ))
+    → Joint b x lent (batched (headOf b) x) (timesAfter (outcomeOf x) (timesIn b)) (tagsAfter (outcomeOf x) (tagsIn b)) (listAfter (outcomeOf x) lent)
+joint b (refused why) lent = record { result = refl; state = refl; kept = refl }
+joint b (done r) lent =
+    let rest = drop (length (r .outcome .lines)) lent in
+    record {
+      result = ap (λ (l : List Line). done (accepted (r .accepted) (r .stop) l)) (read-back line lineOf (λ x. refl) (r .outcome .lines) rest);
+      state = refl;
+      kept = stays line lineOf (λ x. refl) (r .outcome .lines) rest;
     }
 
 -- the reports
@@ -130,6 +153,16 @@ module _ (b : Buffer) (good : goodBuffer b ≡ true) (s : Lent) (here : s ≡ le
       let k : after ≡ listAfter (call b) lent = h .1 .1 .1 ∙ ap (λ (y : Result Outcome). listAfter y lent) x in
       rw (e, f, g, k) (lined b (call b) lent)
 
+  joint-outcome : (call : Buffer → Result Batch.Batch) (lent : List (List ℕ)) (r : Batched) (ts : List (List ℤ)) (gs after : List (List ℕ))
+      → LeavesBatch (s .head) (s .times) (s .tags) lent (onLent call (s .head) (s .times) (s .tags)) r ts gs after → Joint b (call b) lent r ts gs after
+  joint-outcome call lent r ts gs after h =
+      let x = on-buffer call in
+      let e : r ≡ batched (headOf b) (call b) = h .0 ∙ (λ i. batched (here i .head) (x i)) in
+      let f : ts ≡ timesAfter (outcomeOf (call b)) (timesIn b) = h .1 .0 ∙ (λ i. timesAfter (outcomeOf (x i)) (here i .times)) in
+      let g : gs ≡ tagsAfter (outcomeOf (call b)) (tagsIn b) = h .1 .1 .0 ∙ (λ i. tagsAfter (outcomeOf (x i)) (here i .tags)) in
+      let k : after ≡ listAfter (outcomeOf (call b)) lent = h .1 .1 .1 ∙ ap (λ (y : Result Batch.Batch). listAfter (outcomeOf y) lent) x in
+      rw (e, f, g, k) (joint b (call b) lent)
+
   report : (call : Buffer → Result (List Range)) (lent after : List (List ℤ)) (r : Count)
       → Reported r after (onLent call (s .head) (s .times) (s .tags)) lent → Spanned b (call b) lent r after
   report call lent after r h =
@@ -162,6 +195,14 @@ module _ (b : Buffer) (good : goodBuffer b ≡ true) (s : Lent) (here : s ≡ le
   unfolding removeResult replyTo
   remove-agrees start end lent r ts gs after h =
       let o = outcome (Remove.remove (length lent) start end) lent r ts gs after h in
+      record { result = o .result; state = o .state; kept = o .kept }
+
+  pub batch-agrees : (rows : List (List ℤ)) (lent : List (List ℕ)) (r : Batched) (ts : List (List ℤ)) (gs after : List (List ℕ))
+      → LeavesBatch (s .head) (s .times) (s .tags) lent (batchResult (length lent) (map offeredIn rows) (s .head) (s .times) (s .tags)) r ts gs after
+      → Agrees b (batch rows lent) (record { answer = r .answer; after = after }) (record { head = r .head; times = ts; tags = gs })
+  unfolding batchResult replyTo
+  batch-agrees rows lent r ts gs after h =
+      let o = joint-outcome (Batch.batch (length lent) (map offeredIn rows)) lent r ts gs after h in
       record { result = o .result; state = o .state; kept = o .kept }
 
   -- the state after a call that changes the head alone

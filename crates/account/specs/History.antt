@@ -11,6 +11,7 @@ use lib.IntN.{ℤ}
 use lib.Ieee.{Float}
 use lib.ListN.{length, take}
 use Rattle.buffer_state.specs.declared.Answer.the-variants.{Done}
+use Rattle.buffer_state.specs.declared.Batched.{Batched}
 use Rattle.buffer_state.specs.declared.Changed.{Changed}
 use Rattle.buffer_state.specs.declared.Count.{Count}
 use Rattle.buffer_state.specs.declared.Counted.{Counted}
@@ -21,7 +22,7 @@ use Rattle.buffer_state.specs.Buffer.{fresh}
 use Rattle.buffer_state.specs.Lent.{Lent, lentOf, bufferIn}
 use Rattle.buffer_state.specs.Run.{Entry, run, lastOf, offers, foundStored, foundTold, offeredOn, storedOn, droppedOn, removedOn, onOffered}
 use Rattle.buffer_state.specs.WellFormed.{allOf}
-use Rattle.account.specs.Made.{Given, append, remove, abort, setMode, setOffset, setWindowStart, setWindowEnd, readSettings, trackRanges, commonRanges, Made, calls, entries, AllKept}
+use Rattle.account.specs.Made.{Given, append, remove, abort, setMode, setOffset, setWindowStart, setWindowEnd, readSettings, trackRanges, commonRanges, batch, Made, calls, entries, AllKept}
 use Rattle.settings.proofs.create.Reads as Create
 use Rattle.settings.proofs.abort.Reads as Abort
 use Rattle.settings.proofs.set_mode.Reads as SetMode
@@ -30,6 +31,7 @@ use Rattle.settings.proofs.set_window_start.Reads as SetWindowStart
 use Rattle.settings.proofs.set_window_end.Reads as SetWindowEnd
 use Rattle.settings.proofs.read_settings.Reads as ReadSettings
 use Rattle.append.proofs.append.Reads as Append
+use Rattle.batch.proofs.append_batch.Reads as Batch
 use Rattle.remove.proofs.remove.Reads as Remove
 use Rattle.ranges.proofs.track_ranges.Reads as TrackRanges
 use Rattle.ranges.proofs.common_ranges.Reads as CommonRanges
@@ -86,6 +88,12 @@ pub data From : Lent → List Made → Lent → Type 0 where
       (s .head, (at-last times (s .times), (at-last tags (s .tags), (at-last lent after, tt))))
       → From s ms t
       → From s (record { given = commonRanges (now lent); back = record { answer = r; after = after } } ∷ ms) t
+  by-batch : {s t : Lent} {ms : List Made} (rows : RefT (List (List ℤ))) (times : RefT (List (List ℤ))) (tags lent : RefT (List (List ℕ)))
+      (r : Batched) (ts : List (List ℤ)) (gs after : List (List ℕ)) (κs : Lfts 4)
+      → Batch.Learnt κs (s .head, (rows, (at-last times (s .times), (at-last tags (s .tags), (lent, tt))))) r
+      (s .head, (rows, (at-last times ts, (at-last tags gs, (at-last lent after, tt)))))
+      → From (record { head = r .head; times = ts; tags = gs }) ms t
+      → From s (record { given = batch (now rows) (now lent); back = record { answer = r .answer; after = after } } ∷ ms) t
 
 -- From a creation that was not refused: the kinds, the calls made, the last state. What the arrays held before it is any.
 pub data History : List ℕ → List Made → Lent → Type 0 where
@@ -100,7 +108,7 @@ pub data History : List ℕ → List Made → Lent → Type 0 where
 pub record Account (es : List Entry) (t : Lent) : Type 0 where
   -- the last number given is how many frames were offered and accepted
   pub last : t .head .last ≡ length (offers es)
-  -- a stored frame stands on the track that the append of its number named
+  -- a stored frame stands on the track that it named when it was offered under its number
   pub placed : allOf (onOffered (offers es)) (bufferIn t .frames) ≡ true
   -- each number given is found exactly once, on one stored frame or on one line handed out, and no other number is found
   pub found : (k : ℕ) → foundStored k (bufferIn t) + foundTold k es ≡ cond (leb 1 k && leb k (length (offers es))) 1 0
@@ -109,7 +117,8 @@ pub record Account (es : List Entry) (t : Lent) : Type 0 where
 
 -- THE CLAIM about a history: kinds, calls made, last state. The plain run is fed the kinds and the calls' arguments alone.
 pub record Claim (kinds : List ℕ) (ms : List Made) (t : Lent) : Type 0 where
-  -- every refusal, every fate list with its causes, every range list and every reading is the run's,
+  -- every refusal, every fate list with its causes, every range list and every reading is the run's, and of every batch how many frames
+  -- were accepted and what stopped it,
   pub results : entries ms ≡ run (fresh kinds) (calls ms)
   -- and so is the last state
   pub state : t ≡ lentOf (lastOf (fresh kinds) (calls ms))

@@ -6,6 +6,8 @@ use Prim.Native.Nat.{ℕ}
 use lib.IntN.{ℤ, pos}
 use lib.Ieee.{Float}
 use lib.ListN.{length, take, drop, getD}
+use Rattle.buffer_state.specs.declared.Accepted.{Accepted}
+use Rattle.buffer_state.specs.declared.Accepted.the-variants as Accepted
 use Rattle.buffer_state.specs.declared.Answer as Code
 use Rattle.buffer_state.specs.declared.Answer.the-variants as Said
 use Rattle.buffer_state.specs.declared.Count.{Count}
@@ -15,9 +17,10 @@ use Rattle.buffer_state.specs.declared.Offered.{Offered}
 use Rattle.buffer_state.specs.declared.Read.{Read}
 use Rattle.buffer_state.specs.declared.Read.the-variants as Read
 use Rattle.buffer_state.specs.declared.WindowEnd.the-variants.{Unbounded, At}
+use Rattle.buffer_state.specs.Batch.{offeredIn}
 use Rattle.buffer_state.specs.Ranges.{Range}
 use Rattle.buffer_state.specs.Refusals.{Result, refused, done}
-use Rattle.buffer_state.specs.Run.{Call, appendCall, removeCall, abortCall, modeCall, offsetCall, windowStartCall, windowEndCall, readCall, rangesCall, commonCall, Answer, ok, fates, settings, ranges, Entry}
+use Rattle.buffer_state.specs.Run.{Call, appendCall, removeCall, abortCall, modeCall, offsetCall, windowStartCall, windowEndCall, readCall, rangesCall, commonCall, batchCall, Answer, ok, fates, settings, ranges, accepted, Entry}
 use Rattle.buffer_state.specs.Store.{Line}
 
 -- ---- a call
@@ -34,6 +37,7 @@ pub data Given : Type 0 where
   readSettings : Given
   trackRanges : ℕ → List (List ℤ) → Given
   commonRanges : List (List ℤ) → Given
+  batch : List (List ℤ) → List (List ℕ) → Given
 
 -- what the plain run is fed of it: the arguments, and how many places a lent list has
 abbrev pub asked : Given → Call
@@ -47,6 +51,7 @@ asked (setWindowEnd x) = windowEndCall x
 asked readSettings = readCall
 asked (trackRanges track lent) = rangesCall (length lent) track
 asked (commonRanges lent) = commonCall (length lent)
+asked (batch rows lent) = batchCall (length lent) (map offeredIn rows)
 
 -- ---- what it hands back beside the state
 
@@ -54,6 +59,11 @@ asked (commonRanges lent) = commonCall (length lent)
 pub record Listed (A : Type 0) : Type 0 where
   pub answer : Count
   pub after : List A
+
+-- a batch's answer, and the lent fate list afterwards
+pub record Joined : Type 0 where
+  pub answer : Accepted
+  pub after : List (List ℕ)
 
 abbrev pub Back : Given → Type 0
 Back (append f lent) = Listed (List ℕ)
@@ -66,6 +76,7 @@ Back (setWindowEnd x) = Code.Answer
 Back readSettings = Read
 Back (trackRanges track lent) = Listed (List ℤ)
 Back (commonRanges lent) = Listed (List ℤ)
+Back (batch rows lent) = Joined
 
 pub record Made : Type 0 where
   pub given : Given
@@ -85,6 +96,10 @@ rangeOf place = record { start = getD place 0 (pos 0); end = getD place 1 (pos 0
 abbrev pub linesOf : Listed (List ℕ) → Count → Result Answer
 linesOf l (Count.Done n) = done (fates (map lineOf (take n (l .after))))
 linesOf l (Count.Refused why) = refused why
+
+abbrev pub joinedOf : Joined → Accepted → Result Answer
+joinedOf l (Accepted.Done n lines stop) = done (accepted n stop (map lineOf (take lines (l .after))))
+joinedOf l (Accepted.Refused why) = refused why
 
 abbrev pub rangesOf : Listed (List ℤ) → Count → Result Answer
 rangesOf l (Count.Done n) = done (ranges (map rangeOf (take n (l .after))))
@@ -110,6 +125,7 @@ resultOf (setWindowEnd x) a = changeOf a
 resultOf readSettings r = readingOf r
 resultOf (trackRanges track lent) l = rangesOf l (l .answer)
 resultOf (commonRanges lent) l = rangesOf l (l .answer)
+resultOf (batch rows lent) l = joinedOf l (l .answer)
 
 abbrev pub calls : List Made → List Call
 calls = map (λ (m : Made). asked (m .given))
@@ -124,9 +140,16 @@ abbrev pub writtenPlaces : Count → ℕ
 writtenPlaces (Count.Done n) = n
 writtenPlaces (Count.Refused why) = 0
 
+abbrev pub writtenLines : Accepted → ℕ
+writtenLines (Accepted.Done n lines stop) = lines
+writtenLines (Accepted.Refused why) = 0
+
 -- past those, it holds what it held
+abbrev pub KeptPast : {A : Type 0} → ℕ → List A → List A → Type 0
+KeptPast n lent after = after ≡ take n after ++ drop n lent
+
 abbrev pub Kept : {A : Type 0} → List A → Listed A → Type 0
-Kept lent l = let n = writtenPlaces (l .answer) in l .after ≡ take n (l .after) ++ drop n lent
+Kept lent l = KeptPast (writtenPlaces (l .answer)) lent (l .after)
 
 abbrev pub KeptBy : (g : Given) → Back g → Type 0
 KeptBy (append f lent) l = Kept lent l
@@ -139,6 +162,7 @@ KeptBy (setWindowEnd x) a = Unit {0}
 KeptBy readSettings r = Unit {0}
 KeptBy (trackRanges track lent) l = Kept lent l
 KeptBy (commonRanges lent) l = Kept lent l
+KeptBy (batch rows lent) l = KeptPast (writtenLines (l .answer)) lent (l .after)
 
 abbrev pub AllKept : List Made → Type 0
 AllKept [] = Unit {0}

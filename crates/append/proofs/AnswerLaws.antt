@@ -26,7 +26,7 @@ use Rattle.buffer_laws.proofs.LayoutLaws.{few-tracks}
 use Rattle.buffer_laws.proofs.LentLaws.{Holds, lent-good, lent-back, held-back, laid-well-formed, ill-formed-refused, on-well-formed}
 use Rattle.heads.specs.Heads.{GoodHead, HasTrack}
 use Rattle.append.specs.Settled.{settledResult, passAt, Ready}
-use Rattle.append.proofs.StoredLaws.{held-good, held-head}
+use Rattle.append.proofs.StoredLaws.{held-good, held-head, held-count}
 
 module _ (lent : ℕ) (f : Offered) (h : Head) (ts : List (List ℤ)) (gs : List (List ℕ)) where
   abbrev held : Buffer
@@ -44,6 +44,11 @@ module _ (lent : ℕ) (f : Offered) (h : Head) (ts : List (List ℤ)) (gs : List
     pub refused-two : lent < places → appendResult lent f h ts gs ≡ refused ShortFates
     unfolding append
     refused-two e = whole ∙ rw (lt-ltb lent places e)
+
+    -- more lines than are needed make no difference
+    pub enough : places ≤ lent → appendResult lent f h ts gs ≡ appendResult places f h ts gs
+    unfolding append appendResult
+    enough lines = whole ∙ rw (le-ltb lent places lines) (sym (on-well-formed (append places f) h ts gs w))
 
     module _ (lines : places ≤ lent) where
       count : length (held .tracks) ≡ h .ntracks
@@ -96,6 +101,12 @@ module _ (h : Head) (ts : List (List ℤ)) (gs : List (List ℕ)) (w : wellForme
 
     abbrev last : Pass
     last = lastPass (bufferOf (stateAt h ts gs)) f
+
+    pub last-pass-track : last .frame .track ≡ f .track
+    last-pass-track = last-from (bufferOf (stateAt h ts gs)) f .frame .track
+
+    pub last-pass-count : length (last .buffer .frames) ≡ h .nframes
+    last-pass-count = ap length (last-from (bufferOf (stateAt h ts gs)) f .buffer .frames) ∙ sym (held-count h ts gs w)
 
     -- no pass changes the frames
     last-held : Holds (headOf (last .buffer)) ts gs (last .buffer)

@@ -3,3 +3,4 @@ pub mod StoredLaws
 pub mod AnswerLaws
 pub mod SpanLaws
 pub mod HeldLaws
+pub mod FollowLaws

@@ -1,12 +1,16 @@
 -- The store of a well-formed state, the pass that stores a frame in it, and how many frames that leaves.
 use mathlib.Core.Path.{_≡_, sym, ap, _∙_}
-use mathlib.Core.Bool.{true, false}
+use mathlib.Core.Bool.{true, false, not, _||_}
 use mathlib.Core.List.{List}
 use Prim.Native.Nat.{ℕ, suc, _-_, _<_}
 use native.Mathlib.Omega.{arith}
-use lib.IntN.{ℤ}
+use lib.Dec.{eqb}
+use lib.IntN.{ℤ, pos, negℤ}
 use lib.ListN.{length, take, length-set}
+use lib.Signed.{ltZ, leZ}
 use borrow.Author.Tests.{lt-ltb}
+use Rattle.laws.proofs.BoolLaws.{and-right, or-right}
+use Rattle.laws.proofs.IntLaws.{test-le, lt-test, le-lt, lt-add}
 use Rattle.laws.proofs.ListLaws.{first-length}
 use Rattle.buffer_state.specs.declared.Frame.{Frame}
 use Rattle.buffer_state.specs.declared.Head.{Head}
@@ -15,6 +19,7 @@ use Rattle.buffer_state.specs.Append.{Pass, needing, overlapMarks, stepNine, st
 use Rattle.buffer_state.specs.Buffer.{Buffer}
 use Rattle.buffer_state.specs.Layout.{bufferOf}
 use Rattle.buffer_state.specs.Lent.{framesOf, stateAt, headOf, wellFormedAt}
+use Rattle.buffer_state.specs.Limits.{resultTime}
 use Rattle.buffer_state.specs.Store.{kept}
 use Rattle.buffer_state.specs.WellFormed.{goodFrame}
 use Rattle.buffer_laws.proofs.GoodLaws.{Good, good-facts, frame-facts}
@@ -27,7 +32,7 @@ use Rattle.heads.specs.Heads.{HasTrack}
 use Rattle.taking.specs.declared.Span.{Span}
 use Rattle.taking.specs.Taking.{onTrack, inSpans, FirstIn}
 use Rattle.taking.proofs.GoneLaws.{some-gone}
-use Rattle.append.specs.Settled.{passAt, Ready, Stored, overlapAt}
+use Rattle.append.specs.Settled.{passAt, Ready, Stored, Before, overlapAt}
 
 -- ---- the store of a well-formed state
 
@@ -56,6 +61,15 @@ module _ (h : Head) (ts : List (List ℤ)) (gs : List (List ℕ)) (w : wellForme
         tracks = all-weaker (goodFrame (length (held .tracks)) (held .last)) onTrack
             (λ f e. lt-ltb (f .track) 5 (omega (arith, tracks, frame-facts _ _ f e .track-to))) (held .frames) (held-good .frames .each);
       }
+
+  -- no frame is presented past the limits
+  pub past-limits : (track : ℕ) → Before track (pos 4000000000001) (held .frames)
+  unfolding resultTime
+  past-limits track =
+      all-weaker (goodFrame (length (held .tracks)) (held .last)) (λ (g : Frame). not (eqb (g .track) track) || ltZ (g .pts) (pos 4000000000001))
+      (λ g e. or-right (not (eqb (g .track) track)) _
+      (lt-test (le-lt (test-le {a = g .pts} {b = pos 4000000000000} (and-right (leZ (negℤ (pos 4000000000000)) (g .pts)) _ (frame-facts _ _ g e .pts))) (lt-add (pos 4000000000000) 1 (omega arith)))))
+      (held .frames) (held-good .frames .each)
 
 -- ---- need-random-access turned off for the frame's track
 

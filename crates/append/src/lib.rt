@@ -1,24 +1,24 @@
 // Appending one frame. Steps 1 to 6 work on the head of the state (the crate heads); the frames are lent as two arrays and changed in
-// place, after every refusal is decided.
+// place, after every refusal is decided. The crate batch appends many, to a state that is tested once.
 ghost use mathlib.Core.Path.{_≡_};
-ghost use mathlib.Core.Bool.{true, _&&_};
+ghost use mathlib.Core.Bool.{true, _&&_, _||_};
 ghost use Prim.Native.Nat.{_≤_, _<_};
 ghost use lib.ListN.{length, take};
 ghost use lib.Dec.{leb, eqb};
+ghost use lib.Signed.{leZ};
 ghost use Rattle.buffer_state.specs.declared.Frame.{Frame};
 ghost use Rattle.buffer_state.specs.declared.Head.{Head};
 ghost use Rattle.buffer_state.specs.Answers.{counted, timesAfter, tagsAfter, listAfter, appendResult};
-ghost use Rattle.buffer_state.specs.Append.{overlapped, offerable};
+ghost use Rattle.buffer_state.specs.Append.{overlapped, stepNine, offerable};
 ghost use Rattle.buffer_state.specs.Buffer.{Buffer};
 ghost use Rattle.buffer_state.specs.Layout.{zeroFrame, padded};
-ghost use Rattle.buffer_state.specs.Lent.{framesOf, timesOf, tagsOf, headOf, wellFormedAt};
+ghost use Rattle.buffer_state.specs.Lent.{framesOf, timesOf, tagsOf, headOf, timesIn, tagsIn, wellFormedAt};
 ghost use Rattle.buffer_state.specs.Limits.{offeredTime, resultTime, lastNumber, places};
-ghost use Rattle.buffer_state.specs.Refusals.{refused};
 ghost use Rattle.buffer_state.specs.Store.{kept, linesOf, insertSorted};
-ghost use Rattle.heads.specs.Heads.{HasTrack, dropCause};
+ghost use Rattle.heads.specs.Heads.{GoodHead, HasTrack, dropCause};
 ghost use Rattle.taking.specs.Marks.{linesThen};
 ghost use Rattle.taking.specs.Taking.{inSpan, inSpans, FirstIn};
-ghost use Rattle.append.specs.Settled.{settledResult, passAt, Ready, Stored, overlapAt};
+ghost use Rattle.append.specs.Settled.{settledResult, passAt, storingAt, Ready, Stored, Before, Follows, overlapAt};
 use buffer_state::Count;
 use buffer_state::Counted;
 use buffer_state::Frame;
@@ -27,6 +27,7 @@ use buffer_state::Offered;
 use buffer_state::Refusal;
 use buffer_state::Track;
 use heads::Passed;
+use heads::Steady;
 use taking::Span;
 use taking::Taken;
 
@@ -34,11 +35,18 @@ const LAST_NUMBER: u32 = 4294967295;
 
 const PLACES: usize = 1024; // in the store, and lines that a lent fate list needs
 
+const PAST_LIMITS: i64 = 4000000000001; // the first microsecond past the limits
+
+// An instant before which every frame of a track is presented.
+pub struct Bound {
+    pub micros: i64,
+}
+
 // ---- a frame that is dropped
 
 // Its line is the only one. The promise is made of every buffer that has the head.
 fn drop_frame(h: Head, g: Offered, cause: u32, fates: &mut [[u32; 2]]) -> Counted
-    requires { ⌜ HasTrack h (g .track) × (h .nframes ≤ places) × (h .last < lastNumber) × (1 ≤ cause) × (1024 ≤ length (now fates)) ⌝ }
+    requires { ⌜ HasTrack h (g .track) × (h .nframes ≤ places) × (h .last < lastNumber) × (1 ≤ cause) × (1 ≤ length (now fates)) ⌝ }
     ensures answer { λ r. ⌜ ((b : Buffer) (old : Head) → h ≡ headOf b → cause ≡ dropCause (record { buffer = b; frame = g }) → r ≡ counted old (settledResult (record { buffer = b; frame = g }))) ⌝ }
     ensures lines { λ r. ⌜ ((b : Buffer) → h ≡ headOf b → cause ≡ dropCause (record { buffer = b; frame = g }) → now (fates .exit) ≡ listAfter (settledResult (record { buffer = b; frame = g })) (now (fates .entry))) ⌝ }
 {
@@ -86,7 +94,48 @@ fn spans_with(track: u32, s: Span) -> [Span; 5]
     spans
 }
 
+// A stretch past the bound of its track, or empty, has no frame.
+fn is_free(s: Span, bound: Bound) -> bool
+    ensures { λ r. ⌜ r ≡ (leZ (bound .micros) (s .start) || leZ (s .end) (s .start)) ⌝ }
+{
+    limits::at_most(bound.micros, s.start) | limits::at_most(s.end, s.start)
+}
+
+// The first frame in the stretch of its track, or n where none is. A stretch that is free by the bound is not searched for.
+fn first_overlapped(
+    times: &[[i64; 2]],
+    tags: &[[u32; 4]],
+    n: usize,
+    track: u32,
+    s: Span,
+    spans: [Span; 5],
+    bound: Bound,
+) -> usize
+    requires { ⌜ Stored n (now times) (now tags) × ((g : Frame) → inSpans spans g ≡ (eqb (g .track) track && inSpan s g)) × Before track (bound .micros) (take n (framesOf (now times) (now tags))) ⌝ }
+    ensures { λ r. ⌜ FirstIn (inSpans spans) (take n (framesOf (now (times .entry)) (now (tags .entry)))) n r ⌝ }
+{
+    if is_free(s, bound) {
+        return n;
+    }
+    taking::first_in(times, tags, n, spans)
+}
+
 // ---- a frame that is stored
+
+// A frame that overlaps nothing takes its place. The head after it.
+pub fn put_next(h: Head, g: Offered, times: &mut [[i64; 2]], tags: &mut [[u32; 4]]) -> Head
+    requires { ⌜ Ready h (now times) (now tags) g × (h .nframes < 1024) ⌝ }
+    ensures head { λ r. ⌜ r ≡ headOf (stepNine (storingAt h (now (times .entry)) (now (tags .entry)) g) (take (h .nframes) (framesOf (now (times .entry)) (now (tags .entry))))) ⌝ }
+    ensures times { λ r. ⌜ now (times .exit) ≡ timesIn (stepNine (storingAt h (now (times .entry)) (now (tags .entry)) g) (take (h .nframes) (framesOf (now (times .entry)) (now (tags .entry))))) ⌝ }
+    ensures tags { λ r. ⌜ now (tags .exit) ≡ tagsIn (stepNine (storingAt h (now (times .entry)) (now (tags .entry)) g) (take (h .nframes) (framesOf (now (times .entry)) (now (tags .entry))))) ⌝ }
+{
+    let n = h.nframes;
+    let k = heads::need_track(h, g.track, false);
+    let nine = heads::step_nine(k, g, n);
+    let f = heads::stored_as(nine.last, g);
+    places::insert(times, tags, n, f);
+    nine
+}
 
 // The frames in the stretches are taken out, then the frame takes its place among those left.
 fn put_in(
@@ -98,7 +147,7 @@ fn put_in(
     spans: [Span; 5],
     fates: &mut [[u32; 2]],
 ) -> Taken
-    requires { ⌜ Stored n (now times) (now tags) × FirstIn (inSpans spans) (take n (framesOf (now times) (now tags))) n first × (first < n) × (1024 ≤ length (now fates)) ⌝ }
+    requires { ⌜ Stored n (now times) (now tags) × FirstIn (inSpans spans) (take n (framesOf (now times) (now tags))) n first × (first < n) × (n ≤ length (now fates)) ⌝ }
     ensures times { λ r. ⌜ now (times .exit) ≡ timesOf (padded places zeroFrame (insertSorted f (kept (overlapAt spans n (now (times .entry)) (now (tags .entry)))))) ⌝ }
     ensures tags { λ r. ⌜ now (tags .exit) ≡ tagsOf (padded places zeroFrame (insertSorted f (kept (overlapAt spans n (now (times .entry)) (now (tags .entry)))))) ⌝ }
     ensures lines { λ r. ⌜ now (fates .exit) ≡ linesThen (overlapAt spans n (now (times .entry)) (now (tags .entry))) (now (fates .entry)) ⌝ }
@@ -123,11 +172,12 @@ fn store_frame(
     old: Head,
     h: Head,
     g: Offered,
+    bound: Bound,
     times: &mut [[i64; 2]],
     tags: &mut [[u32; 4]],
     fates: &mut [[u32; 2]],
 ) -> Counted
-    requires { ⌜ Ready h (now times) (now tags) g × (dropCause (passAt h (now times) (now tags) g) ≡ 0) × (1024 ≤ length (now fates)) ⌝ }
+    requires { ⌜ Ready h (now times) (now tags) g × (dropCause (passAt h (now times) (now tags) g) ≡ 0) × Before (g .track) (bound .micros) (take (h .nframes) (framesOf (now times) (now tags))) × (h .nframes ≤ length (now fates)) ⌝ }
     ensures answer { λ r. ⌜ r ≡ counted old (settledResult (passAt h (now (times .entry)) (now (tags .entry)) g)) ⌝ }
     ensures times { λ r. ⌜ now (times .exit) ≡ timesAfter (settledResult (passAt h (now (times .entry)) (now (tags .entry)) g)) (now (times .entry)) ⌝ }
     ensures tags { λ r. ⌜ now (tags .exit) ≡ tagsAfter (settledResult (passAt h (now (times .entry)) (now (tags .entry)) g)) (now (tags .entry)) ⌝ }
@@ -138,14 +188,12 @@ fn store_frame(
     let k = heads::need_track(h, track, false);
     let s = span_of(heads::track_of(k, track), g);
     let spans = spans_with(track, s);
-    let first = taking::first_in(times, tags, n, spans);
+    let first = first_overlapped(times, tags, n, track, s, spans, bound);
     if first == n {
         if PLACES <= n {
             return buffer_state::refuse(old, Refusal::Full);
         }
-        let nine = heads::step_nine(k, g, n);
-        let f = heads::stored_as(nine.last, g);
-        places::insert(times, tags, n, f);
+        let nine = put_next(h, g, times, tags);
         return Counted {
             answer: Count::Done(0),
             head: nine,
@@ -181,15 +229,50 @@ fn has_track(n: u32, tracks: usize) -> bool
     (1 <= n) & (n as usize <= tracks)
 }
 
+// Whether a frame goes on from where its track stands: nothing of the head changes before step 9, and the frame is stored and overlaps
+// nothing. The frame is that after step 2.
+pub fn follows(h: Head, f: Offered, bound: Bound) -> Steady
+    requires { ⌜ GoodHead h ⌝ }
+    ensures { λ r. ⌜ ((b : Buffer) → h ≡ headOf b → r .ok ≡ true → Follows b f (r .frame) (bound .micros)) ⌝ }
+{
+    let no = Steady {
+        ok: false,
+        frame: f,
+    };
+    if !has_track(f.track, h.ntracks) {
+        return no;
+    }
+    if !is_offerable(f) {
+        return no;
+    }
+    if h.last == LAST_NUMBER {
+        return no;
+    }
+    let s = heads::steady_frame(h, f);
+    if !s.ok {
+        return s;
+    }
+    let g = s.frame;
+    if heads::drop_cause(h, g) != 0 {
+        return no;
+    }
+    let span = span_of(heads::track_of(h, g.track), g);
+    Steady {
+        ok: is_free(span, bound) & (h.nframes < PLACES),
+        frame: g,
+    }
+}
+
 // The last pass, once it is inside the limits, drops or stores the frame.
 fn settle(
     old: Head,
     p: Passed,
+    bound: Bound,
     times: &mut [[i64; 2]],
     tags: &mut [[u32; 4]],
     fates: &mut [[u32; 2]],
 ) -> Counted
-    requires { ⌜ Ready (p .head) (now times) (now tags) (p .frame) × (1024 ≤ length (now fates)) ⌝ }
+    requires { ⌜ Ready (p .head) (now times) (now tags) (p .frame) × Before (p .frame .track) (bound .micros) (take (p .head .nframes) (framesOf (now times) (now tags))) × (p .head .nframes ≤ length (now fates)) × (1 ≤ length (now fates)) ⌝ }
     ensures answer { λ r. ⌜ r ≡ counted old (settledResult (passAt (p .head) (now (times .entry)) (now (tags .entry)) (p .frame))) ⌝ }
     ensures times { λ r. ⌜ now (times .exit) ≡ timesAfter (settledResult (passAt (p .head) (now (times .entry)) (now (tags .entry)) (p .frame))) (now (times .entry)) ⌝ }
     ensures tags { λ r. ⌜ now (tags .exit) ≡ tagsAfter (settledResult (passAt (p .head) (now (times .entry)) (now (tags .entry)) (p .frame))) (now (tags .entry)) ⌝ }
@@ -199,24 +282,27 @@ fn settle(
     let g = p.frame;
     let cause = heads::drop_cause(h, g);
     if cause == 0 {
-        return store_frame(old, h, g, times, tags, fates);
+        return store_frame(old, h, g, bound, times, tags, fates);
     }
     drop_frame(h, g, cause, fates)
 }
 
-// Append one frame to a state that was tested, with lines enough: refusals 3, 4, 9 and 7 in that order, then 8 or the steps' outcome.
+// Append one frame to a state that was tested, as if lent 1,024 lines: refusals 3, 4, 9 and 7 in that order, then 8 or the steps' outcome.
+// The lines lent need be no more than can be written: one for each stored frame, or one for this frame. The bound is that of its
+// track.
 pub fn append_tested(
     h: Head,
     f: Offered,
+    bound: Bound,
     times: &mut [[i64; 2]],
     tags: &mut [[u32; 4]],
     fates: &mut [[u32; 2]],
 ) -> Counted
-    requires { ⌜ (wellFormedAt h (now times) (now tags) ≡ true) × (1024 ≤ length (now fates)) ⌝ }
-    ensures answer { λ r. ⌜ r ≡ counted h (appendResult (length (now (fates .entry))) f h (now (times .entry)) (now (tags .entry))) ⌝ }
-    ensures times { λ r. ⌜ now (times .exit) ≡ timesAfter (appendResult (length (now (fates .entry))) f h (now (times .entry)) (now (tags .entry))) (now (times .entry)) ⌝ }
-    ensures tags { λ r. ⌜ now (tags .exit) ≡ tagsAfter (appendResult (length (now (fates .entry))) f h (now (times .entry)) (now (tags .entry))) (now (tags .entry)) ⌝ }
-    ensures lines { λ r. ⌜ now (fates .exit) ≡ listAfter (appendResult (length (now (fates .entry))) f h (now (times .entry)) (now (tags .entry))) (now (fates .entry)) ⌝ }
+    requires { ⌜ (wellFormedAt h (now times) (now tags) ≡ true) × Before (f .track) (bound .micros) (take (h .nframes) (framesOf (now times) (now tags))) × (h .nframes ≤ length (now fates)) × (1 ≤ length (now fates)) ⌝ }
+    ensures answer { λ r. ⌜ r ≡ counted h (appendResult places f h (now (times .entry)) (now (tags .entry))) ⌝ }
+    ensures times { λ r. ⌜ now (times .exit) ≡ timesAfter (appendResult places f h (now (times .entry)) (now (tags .entry))) (now (times .entry)) ⌝ }
+    ensures tags { λ r. ⌜ now (tags .exit) ≡ tagsAfter (appendResult places f h (now (times .entry)) (now (tags .entry))) (now (tags .entry)) ⌝ }
+    ensures lines { λ r. ⌜ now (fates .exit) ≡ listAfter (appendResult places f h (now (times .entry)) (now (tags .entry))) (now (fates .entry)) ⌝ }
 {
     if !has_track(f.track, h.ntracks) {
         return buffer_state::refuse(h, Refusal::NoTrack);
@@ -231,7 +317,7 @@ pub fn append_tested(
     if !p.fits {
         return buffer_state::refuse(h, Refusal::ResultLimits);
     }
-    settle(h, p, times, tags, fates)
+    settle(h, p, bound, times, tags, fates)
 }
 
 // Append one frame: refusals 1, 2, 3, 4, 9 and 7 in that order, then 8 or the steps' outcome.
@@ -253,5 +339,8 @@ pub fn append(
     if fates.len() < PLACES {
         return buffer_state::refuse(h, Refusal::ShortFates);
     }
-    append_tested(h, f, times, tags, fates)
+    let bound = Bound {
+        micros: PAST_LIMITS,
+    };
+    append_tested(h, f, bound, times, tags, fates)
 }

@@ -24,12 +24,13 @@ use Rattle.buffer_laws.proofs.StoreLaws.{frameWeight}
 use Rattle.buffer_laws.proofs.GoodLaws.{Good}
 use Rattle.buffer_laws.proofs.AppendLaws.{knownCause}
 use Rattle.buffer_laws.proofs.SettingLaws.{created-good}
-use Rattle.buffer_laws.proofs.RunLaws.{numbersAfter, reply-lawful, run-lawful}
+use Rattle.buffer_laws.proofs.CallLaws.{numbersAfter}
+use Rattle.buffer_laws.proofs.RunLaws.{reply-lawful, run-lawful}
 
 -- ---- conservation, in numbers
 
 -- For each call: the numbers stored after it and on its lines are, each counted as often, those stored before it and those that it
--- gave, which is the next one for an append that is not refused and none for any other.
+-- gave: the next one for an append that is not refused, the next n for a batch of which n frames were accepted, none for any other.
 pub numbers-kept : (c : Call) (b : Buffer) (k : ℕ)
     → foundStored k (replyTo c b .after) + count (λ (l : Line). eqb k (l .number)) (linesIn (replyTo c b .result))
     ≡ foundStored k b + count (eqb k) (numbersAfter (b .last) (length (offeredBy c (replyTo c b .result))))

@@ -8,10 +8,11 @@ use native.Mathlib.Omega.{arith}
 use lib.Dec.{leb, eqb}
 use lib.IntN.{ℤ, pos}
 use lib.ListN.{length, set, length-map, length-set}
+use lib.Seq.{getD-set-same}
 use lib.Signed.{ltZ, leZ, _≤ℤ_}
 use borrow.Author.Tests.{eqb-false, not-true, not-false}
 use Rattle.laws.proofs.BoolLaws.{by-test, and-left, and-right, and-both, or-right, or-none-left, or-none-right}
-use Rattle.laws.proofs.IntLaws.{test-le, le-test, test-ge, le-le}
+use Rattle.laws.proofs.IntLaws.{test-le, le-test, test-ge, le-le, le-refl}
 use Rattle.seconds.specs.Seconds.{secondsOf, sameInt}
 use Rattle.seconds.proofs.SecondsLaws.{double-same}
 use Rattle.buffer_state.specs.declared.Frame.{Frame}
@@ -374,7 +375,25 @@ appended-accounts b f =
       causes = a .causes;
     }
 
--- ---- what is stored after an append: what was stored, or the frame offered under the next number
+-- ---- what is stored after an append: what was stored, or the frame offered under the next number, which ends by its track's highest end
+
+-- a frame ends by the highest end of its track
+abbrev pub Ends : Buffer → Offered → Type 0
+Ends b g = leZ (endOffered g) (trackOf b (g .track) .end) ≡ true
+
+highest-reached : (t : Track) (e : ℤ) → leZ e (cond (t .known) (raised (t .end) e) e) ≡ true
+highest-reached t e =
+    let Reached : ℤ → Type 0 = λ z. leZ e z ≡ true in
+    by-test Reached (t .known)
+    (λ _. by-test Reached (ltZ (t .end) e) (λ _. le-test (le-refl e)) (λ h. le-test (test-ge {a = t .end} {b = e} h)))
+    (λ _. le-test (le-refl e))
+
+stored-ends : (p : Pass) → 1 ≤ p .frame .track → p .frame .track ≤ length (p .buffer .tracks) → Ends (stored p .after) (p .frame)
+unfolding stored stepNine
+stored-ends p from to =
+    let t = followed (trackOf (p .buffer) (p .frame .track)) (p .frame) in
+    let same = getD-set-same (p .buffer .tracks) (p .frame .track - 1) t zeroTrack (omega arith) in
+    ap (λ (x : Track). leZ (endOffered (p .frame)) (x .end)) same ∙ highest-reached (trackOf (p .buffer) (p .frame .track)) (endOffered (p .frame))
 
 module _ (q : Frame → Bool) where
   stored-all : (p : Pass) → allOf q (p .buffer .frames) ≡ true → q (storedAs (nextNumber (p .buffer)) (p .frame)) ≡ true
@@ -384,19 +403,23 @@ module _ (q : Frame → Bool) where
       insert-all (storedAs (nextNumber (p .buffer)) (p .frame)) q (kept (overlapMarks p)) h
       (left-all (overlapped (trackOf (p .buffer) (p .frame .track)) (p .frame)) 4 (p .buffer .frames) q e)
 
-  settled-all : (p : Pass) → allOf q (p .buffer .frames) ≡ true → q (storedAs (nextNumber (p .buffer)) (p .frame)) ≡ true
-      → allOf q (settled p .after .frames) ≡ true
+  settled-all : (p : Pass) → 1 ≤ p .frame .track → p .frame .track ≤ length (p .buffer .tracks) → allOf q (p .buffer .frames) ≡ true
+      → (Ends (settled p .after) (p .frame) → q (storedAs (nextNumber (p .buffer)) (p .frame)) ≡ true) → allOf q (settled p .after .frames) ≡ true
   unfolding settled
-  settled-all p e h =
-      let Holds : Outcome → Type 0 = λ (o : Outcome). allOf q (o .after .frames) ≡ true in
-      by-test Holds (beforeWindow p) (λ _. e)
-      (λ _. by-test Holds (pastWindow p) (λ _. e)
-      (λ _. by-test Holds (lacksRandomAccess p) (λ _. e)
-      (λ _. stored-all (record { buffer = needing false p; frame = p .frame }) e h)))
+  settled-all p from to e =
+      let Holds : Outcome → Type 0 = λ (o : Outcome). (Ends (o .after) (p .frame) → q (storedAs (nextNumber (p .buffer)) (p .frame)) ≡ true) → allOf q (o .after .frames) ≡ true in
+      let ready : Pass = record { buffer = needing false p; frame = p .frame } in
+      let width : length (ready .buffer .tracks) ≡ length (p .buffer .tracks) = length-set (p .buffer .tracks) (p .frame .track - 1) _ in
+      by-test Holds (beforeWindow p) (λ _ _. e)
+      (λ _. by-test Holds (pastWindow p) (λ _ _. e)
+      (λ _. by-test Holds (lacksRandomAccess p) (λ _ _. e)
+      (λ _ h. stored-all ready e (h (stored-ends ready from (omega (arith, width)))))))
 
-  pub appended-all : (b : Buffer) (f : Offered) → allOf q (b .frames) ≡ true
-      → ((g : Offered) → Moved f g → q (storedAs (nextNumber b) g) ≡ true) → allOf q (appended b f .after .frames) ≡ true
+  pub appended-all : (b : Buffer) (f : Offered) → Accepted b f → allOf q (b .frames) ≡ true
+      → ((g : Offered) → Moved f g → Ends (appended b f .after) g → q (storedAs (nextNumber b) g) ≡ true) → allOf q (appended b f .after .frames) ≡ true
   unfolding appended
-  appended-all b f e h =
+  appended-all b f a e h =
       let from = last-from b f in
-      settled-all (lastPass b f) (rw (from .buffer .frames) e) (rw (from .buffer .last) (h (lastPass b f .frame) (from .frame)))
+      let p = lastPass b f in
+      settled-all p (rw (from .frame .track) (a .track-from)) (rw (from .frame .track, from .buffer .width) (a .track-to)) (rw (from .buffer .frames) e)
+      (λ ends. rw (from .buffer .last) (h (p .frame) (from .frame) ends))

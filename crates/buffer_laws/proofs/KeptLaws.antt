@@ -18,13 +18,17 @@ use Rattle.buffer_state.specs.declared.Offered.{Offered}
 use Rattle.buffer_state.specs.declared.Settings.{Settings}
 use Rattle.buffer_state.specs.declared.WindowEnd.{WindowEnd}
 use Rattle.buffer_state.specs.declared.WindowEnd.the-variants.{Unbounded, At}
+use Rattle.buffer_state.specs.Answers.{outcomeOf}
 use Rattle.buffer_state.specs.Append.{Pass, Outcome, stepOne, regrouped, breaks, passOf, secondPass, lastPass, leavesLimits, beforeWindow, pastWindow, lacksRandomAccess, stepNine, stored, settled, appended, offerable, append}
+use Rattle.buffer_state.specs.Batch.{Batch, mostFrames, batchLines, batch}
 use Rattle.buffer_state.specs.Buffer.{Buffer, hasTrack, isSequence}
 use Rattle.buffer_state.specs.Limits.{places, lastNumber}
-use Rattle.buffer_state.specs.Refusals.{Result, refused, done}
+use Rattle.buffer_state.specs.Refusals.{Result}
 use Rattle.buffer_state.specs.Remove.{beforeBound, removalMarks, endsTrack, afterLoss, removed, remove}
 use Rattle.buffer_state.specs.Settings.{aborted, modeSet, offsetSet, windowEnd, windowStartSet, windowEndSet, endAt}
 use Rattle.buffer_state.specs.Store.{Marked}
+use Rattle.buffer_laws.proofs.SettingLaws.{IfDone, if-done}
+use Rattle.buffer_laws.proofs.BatchLaws.{each-keeps}
 
 -- ---- a property of each double kept
 
@@ -44,12 +48,10 @@ pub record Made (P : Float → Type 0) : Type 0 where
 
 -- of a call that may be refused
 abbrev pub OutcomeKeeps : (Float → Type 0) → Result Outcome → Type 0
-OutcomeKeeps P (refused why) = Unit {0}
-OutcomeKeeps P (done o) = Keeps P (o .after .settings)
+OutcomeKeeps P = IfDone (λ (o : Outcome). Keeps P (o .after .settings))
 
 abbrev pub SettingKeeps : (Float → Type 0) → Result Buffer → Type 0
-SettingKeeps P (refused why) = Unit {0}
-SettingKeeps P (done b) = Keeps P (b .settings)
+SettingKeeps P = IfDone (λ (b : Buffer). Keeps P (b .settings))
 
 module _ (P : Float → Type 0) (made : Made P) where
   -- ---- steps 1 to 9
@@ -91,6 +93,14 @@ module _ (P : Float → Type 0) (made : Made P) where
       (λ _. by-test (OutcomeKeeps P) (leavesLimits b f) (λ _. tt)
       (λ _. by-test (OutcomeKeeps P) (ltb places (length (appended b f .after .frames))) (λ _. tt)
       (λ _. settled-keeps (lastPass b f) (last-pass-keeps b f k)))))))
+
+  pub batch-keeps : (lent : ℕ) (fs : List Offered) (b : Buffer) → Keeps P (b .settings) → OutcomeKeeps P (outcomeOf (batch lent fs b))
+  unfolding batch
+  batch-keeps lent fs b k =
+      let Kept : Result Batch → Type 0 = λ r. OutcomeKeeps P (outcomeOf r) in
+      by-test Kept (ltb mostFrames (length fs)) (λ _. tt)
+      (λ _. by-test Kept (ltb lent batchLines) (λ _. tt)
+      (λ _. each-keeps (λ (c : Buffer). Keeps P (c .settings)) (λ f c o e kept. if-done _ (append places f c) (append-keeps places f c kept) e) fs b k))
 
   -- ---- removal, which keeps them all
 

@@ -14,14 +14,17 @@ use Rattle.buffer_state.specs.declared.Mode.the-variants.{Segments, Sequence}
 use Rattle.buffer_state.specs.declared.Offered.{Offered}
 use Rattle.buffer_state.specs.declared.Track.{Track}
 use Rattle.buffer_state.specs.Append.{Pass, Outcome, stepOne, regrouped, breaks, passOf, secondPass, lastPass, leavesLimits, beforeWindow, pastWindow, lacksRandomAccess, needing, stepNine, stored, settled, appended, offerable, append}
+use Rattle.buffer_state.specs.Batch.{Batch, mostFrames, batchLines, batch}
 use Rattle.buffer_state.specs.Buffer.{Buffer, fresh, freshTrack, zeroTrack, hasTrack, withNeed, restarted, isSequence}
 use Rattle.buffer_state.specs.Limits.{places, lastNumber}
 use Rattle.buffer_state.specs.Ranges.{Range, trackRanges, commonRanges}
 use Rattle.buffer_state.specs.Refusals.{Result, refused, done}
 use Rattle.buffer_state.specs.Remove.{beforeBound, removalMarks, endsTrack, afterLoss, removed, remove}
-use Rattle.buffer_state.specs.Run.{Call, appendCall, removeCall, abortCall, modeCall, offsetCall, windowStartCall, windowEndCall, readCall, rangesCall, commonCall, byOutcome, bySetting, byRanges, replyTo, lastOf}
+use Rattle.buffer_state.specs.Run.{Call, appendCall, removeCall, abortCall, modeCall, offsetCall, windowStartCall, windowEndCall, readCall, rangesCall, commonCall, batchCall, byOutcome, bySetting, byRanges, byBatch, replyTo, lastOf}
 use Rattle.buffer_state.specs.Settings.{aborted, modeSet, offsetSet, windowEnd, windowStartSet, windowEndSet}
 use Rattle.buffer_state.specs.Store.{Marked}
+use Rattle.buffer_laws.proofs.SettingLaws.{IfDone, if-done}
+use Rattle.buffer_laws.proofs.BatchLaws.{each-keeps}
 
 -- the kinds of the tracks, in their order
 abbrev pub kindsOf : Buffer → List ℕ
@@ -83,6 +86,22 @@ appended-kinds : (b : Buffer) (f : Offered) → kindsOf (appended b f .after) �
 unfolding appended
 appended-kinds b f = settled-kinds (lastPass b f) ∙ last-pass-kinds b f
 
+-- an outcome with the tracks of the buffer before
+abbrev Kinds : Buffer → Outcome → Type 0
+Kinds b o = kindsOf (o .after) ≡ kindsOf b
+
+append-kinds : (lent : ℕ) (f : Offered) (b : Buffer) → IfDone (Kinds b) (append lent f b)
+unfolding append
+append-kinds lent f b =
+    let Same : Result Outcome → Type 0 = IfDone (Kinds b) in
+    by-test Same (ltb lent places) (λ _. tt)
+    (λ _. by-test Same (not (hasTrack b (f .track))) (λ _. tt)
+    (λ _. by-test Same (not (offerable f)) (λ _. tt)
+    (λ _. by-test Same (eqb (b .last) lastNumber) (λ _. tt)
+    (λ _. by-test Same (leavesLimits b f) (λ _. tt)
+    (λ _. by-test Same (ltb places (length (appended b f .after .frames))) (λ _. tt)
+    (λ _. appended-kinds b f))))))
+
 -- ---- removal
 
 loss-kinds : (ms : List Marked) (b : Buffer) → kindsOf (afterLoss ms b) ≡ kindsOf b
@@ -106,17 +125,13 @@ ranges-kinds : (b : Buffer) (r : Result (List Range)) → kindsOf (byRanges b r 
 ranges-kinds b (refused why) = refl
 ranges-kinds b (done rs) = refl
 
+outcome-kinds : (b : Buffer) (r : Result Outcome) → IfDone (Kinds b) r → kindsOf (byOutcome b r .after) ≡ kindsOf b
+outcome-kinds b (refused why) e = refl
+outcome-kinds b (done o) e = e
+
 pub reply-kinds : (c : Call) (b : Buffer) → kindsOf (replyTo c b .after) ≡ kindsOf b
-unfolding replyTo append remove aborted offsetSet windowStartSet windowEndSet
-reply-kinds (appendCall lent f) b =
-    let Same : Result Outcome → Type 0 = λ r. kindsOf (byOutcome b r .after) ≡ kindsOf b in
-    by-test Same (ltb lent places) (λ _. refl)
-    (λ _. by-test Same (not (hasTrack b (f .track))) (λ _. refl)
-    (λ _. by-test Same (not (offerable f)) (λ _. refl)
-    (λ _. by-test Same (eqb (b .last) lastNumber) (λ _. refl)
-    (λ _. by-test Same (leavesLimits b f) (λ _. refl)
-    (λ _. by-test Same (ltb places (length (appended b f .after .frames))) (λ _. refl)
-    (λ _. appended-kinds b f))))))
+unfolding replyTo batch remove aborted offsetSet windowStartSet windowEndSet
+reply-kinds (appendCall lent f) b = outcome-kinds b (append lent f b) (append-kinds lent f b)
 reply-kinds (removeCall lent start end) b =
     let Same : Result Outcome → Type 0 = λ r. kindsOf (byOutcome b r .after) ≡ kindsOf b in
     by-test Same (ltb lent places) (λ _. refl)
@@ -140,6 +155,11 @@ reply-kinds (windowEndCall x) b =
 reply-kinds readCall b = refl
 reply-kinds (rangesCall lent track) b = ranges-kinds b (trackRanges lent track b)
 reply-kinds (commonCall lent) b = ranges-kinds b (commonRanges lent b)
+reply-kinds (batchCall lent fs) b =
+    let Same : Result Batch → Type 0 = λ r. kindsOf (byBatch b r .after) ≡ kindsOf b in
+    by-test Same (ltb mostFrames (length fs)) (λ _. refl)
+    (λ _. by-test Same (ltb lent batchLines) (λ _. refl)
+    (λ _. each-keeps (λ (c : Buffer). kindsOf c ≡ kindsOf b) (λ f c o e same. if-done (Kinds c) (append places f c) (append-kinds places f c) e ∙ same) fs b refl))
 
 run-kinds : (b : Buffer) (cs : List Call) → kindsOf (lastOf b cs) ≡ kindsOf b
 unfolding lastOf

@@ -13,6 +13,8 @@ pub mod ReportLaws
 pub mod AppendLaws
 pub mod RemoveLaws
 pub mod SettingLaws
+pub mod CallLaws
+pub mod BatchLaws
 pub mod RunLaws
 pub mod AccountLaws
 pub mod KindLaws

@@ -64,9 +64,12 @@ fresh-tracks kinds some few known =
     and-both count (all-map knownKind goodTrack freshTrack (λ k h. and-both h refl) kinds known)
 
 -- what holds of a buffer that creation gives
-abbrev pub IfDone : (Buffer → Type 0) → Result Buffer → Type 0
+abbrev pub IfDone : {A : Type 0} → (A → Type 0) → Result A → Type 0
 IfDone P (refused why) = Unit {0}
-IfDone P (done b) = P b
+IfDone P (done x) = P x
+
+pub if-done : {A : Type 0} (P : A → Type 0) (r : Result A) → IfDone P r → {x : A} → r ≡ done x → P x
+if-done P r h e = rw e at h
 
 pub created-good : (kinds : List ℕ) → IfDone Good (create kinds)
 unfolding create goodGroup sameInt resultTime sorted distinctNumbers

@@ -5,7 +5,9 @@ use Prim.Native.Nat.{ℕ}
 use lib.IntN.{ℤ}
 use lib.Ieee.{Float}
 use lib.ListN.{length, drop}
+use Rattle.buffer_state.specs.declared.Accepted.the-variants as Accepted
 use Rattle.buffer_state.specs.declared.Answer.the-variants.{Done, Refused}
+use Rattle.buffer_state.specs.declared.Batched.{Batched}
 use Rattle.buffer_state.specs.declared.Changed.{Changed}
 use Rattle.buffer_state.specs.declared.Count.{Count}
 use Rattle.buffer_state.specs.declared.Count.the-variants as Count
@@ -18,6 +20,7 @@ use Rattle.buffer_state.specs.declared.Read.the-variants as Read
 use Rattle.buffer_state.specs.declared.WindowEnd.{WindowEnd}
 use Rattle.buffer_state.specs.declared.WindowEnd.the-variants.{Unbounded, At}
 use Rattle.buffer_state.specs.Append.{Outcome, append}
+use Rattle.buffer_state.specs.Batch.{Batch, batch}
 use Rattle.buffer_state.specs.Buffer.{Buffer, fresh}
 use Rattle.buffer_state.specs.Lent.{headOf, timesIn, tagsIn, onLent}
 use Rattle.buffer_state.specs.Ranges.{Range, trackRanges, commonRanges}
@@ -102,6 +105,19 @@ appendResult lent f = onLent (append lent f)
 
 unfoldable pub removeResult : ℕ → Float → Float → Head → List (List ℤ) → List (List ℕ) → Result Outcome
 removeResult lent start end = onLent (remove lent start end)
+
+-- ---- a batch: the arrays and the fate list are after it what they are after one append with its outcome
+
+abbrev pub batched : Head → Result Batch → Batched
+batched h (refused why) = record { answer = Accepted.Refused why; head = h }
+batched h (done r) = record { answer = Accepted.Done (r .accepted) (length (r .outcome .lines)) (r .stop); head = headOf (r .outcome .after) }
+
+abbrev pub outcomeOf : Result Batch → Result Outcome
+outcomeOf (refused why) = refused why
+outcomeOf (done r) = done (r .outcome)
+
+unfoldable pub batchResult : ℕ → List Offered → Head → List (List ℤ) → List (List ℕ) → Result Batch
+batchResult lent fs = onLent (batch lent fs)
 
 -- ---- the reports: how many ranges, and what the lent range list holds after the call
 

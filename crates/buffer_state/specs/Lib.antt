@@ -4,6 +4,7 @@ pub mod WellFormed
 pub mod Refusals
 pub mod Store
 pub mod Append
+pub mod Batch
 pub mod Remove
 pub mod Settings
 pub mod Ranges

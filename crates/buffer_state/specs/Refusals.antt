@@ -2,7 +2,7 @@
 use mathlib.Core.Bool.{Bool, cond}
 use Prim.Native.Nat.{ℕ}
 use Rattle.buffer_state.specs.declared.Refusal.{Refusal}
-use Rattle.buffer_state.specs.declared.Refusal.the-variants.{IllFormed, ShortFates, NoTrack, FrameLimits, Seconds, Order, ResultLimits, Full, LastNumber, ShortList, Kinds, Malformed}
+use Rattle.buffer_state.specs.declared.Refusal.the-variants.{IllFormed, ShortFates, NoTrack, FrameLimits, Seconds, Order, ResultLimits, Full, LastNumber, ShortList, Kinds, Malformed, LentSize}
 
 -- The table. The calls' own definitions say exactly when each is given, and in which order.
 abbrev pub refusalNumber : Refusal → ℕ
@@ -18,6 +18,7 @@ refusalNumber LastNumber = 9
 refusalNumber ShortList = 10
 refusalNumber Kinds = 11
 refusalNumber Malformed = 12
+refusalNumber LentSize = 13
 
 -- what a call gives: its result, or one refusal
 pub data Result (A : Type 0) : Type 0 where

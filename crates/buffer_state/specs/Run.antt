@@ -1,17 +1,19 @@
 -- Document 01, "The whole account": the plain run over a list of calls, and what it counts.
 use mathlib.Core.Bool.{Bool, cond, _&&_}
-use mathlib.Core.List.{List, [], _∷_, _++_}
+use mathlib.Core.List.{List, [], _∷_, _++_, map}
 use Prim.Native.Nat.{ℕ, _+_, _-_}
 use lib.Dec.{leb, eqb}
 use lib.Ieee.{Float}
-use lib.ListN.{getD}
+use lib.ListN.{take, getD}
 use Rattle.buffer_state.specs.declared.Frame.{Frame}
 use Rattle.buffer_state.specs.declared.Mode.{Mode}
 use Rattle.buffer_state.specs.declared.Offered.{Offered}
+use Rattle.buffer_state.specs.declared.Stop.{Stop}
 use Rattle.buffer_state.specs.Buffer.{Buffer}
 use Rattle.buffer_state.specs.Refusals.{Result, refused, done}
 use Rattle.buffer_state.specs.Store.{Line}
 use Rattle.buffer_state.specs.Append.{Outcome, append}
+use Rattle.buffer_state.specs.Batch.{Batch, batch}
 use Rattle.buffer_state.specs.Remove.{remove}
 use Rattle.buffer_state.specs.Settings.{aborted, modeSet, offsetSet, windowStartSet, windowEndSet, Reading, reading}
 use Rattle.buffer_state.specs.Ranges.{Range, trackRanges, commonRanges}
@@ -28,6 +30,7 @@ pub data Call : Type 0 where
   readCall : Call
   rangesCall : ℕ → ℕ → Call
   commonCall : ℕ → Call
+  batchCall : ℕ → List Offered → Call
 
 -- what a call that is not refused hands out
 pub data Answer : Type 0 where
@@ -35,6 +38,7 @@ pub data Answer : Type 0 where
   fates : List Line → Answer
   settings : Reading → Answer
   ranges : List Range → Answer
+  accepted : ℕ → Stop → List Line → Answer
 
 -- a call's result, and the buffer after it
 pub record Reply : Type 0 where
@@ -55,6 +59,11 @@ abbrev pub byRanges : Buffer → Result (List Range) → Reply
 byRanges b (refused why) = record { result = refused why; after = b }
 byRanges b (done rs) = record { result = done (ranges rs); after = b }
 
+-- that a batch was stopped is a result
+abbrev pub byBatch : Buffer → Result Batch → Reply
+byBatch b (refused why) = record { result = refused why; after = b }
+byBatch b (done r) = record { result = done (accepted (r .accepted) (r .stop) (r .outcome .lines)); after = r .outcome .after }
+
 unfoldable pub replyTo : Call → Buffer → Reply
 replyTo (appendCall lent f) b = byOutcome b (append lent f b)
 replyTo (removeCall lent start end) b = byOutcome b (remove lent start end b)
@@ -66,6 +75,7 @@ replyTo (windowEndCall x) b = bySetting b (windowEndSet x b)
 replyTo readCall b = record { result = done (settings (reading b)); after = b }
 replyTo (rangesCall lent track) b = byRanges b (trackRanges lent track b)
 replyTo (commonCall lent) b = byRanges b (commonRanges lent b)
+replyTo (batchCall lent fs) b = byBatch b (batch lent fs b)
 
 -- ---- the run
 
@@ -91,13 +101,24 @@ linesIn (done ok) = []
 linesIn (done (fates ls)) = ls
 linesIn (done (settings r)) = []
 linesIn (done (ranges rs)) = []
+linesIn (done (accepted n stop ls)) = ls
 
 -- the lines that a run hands out
 unfoldable pub handedOut : List Entry → List Line
 handedOut [] = []
 handedOut (e ∷ es) = linesIn (e .result) ++ handedOut es
 
--- the tracks of the frames offered by a call: of an append that is not refused, the one that it names
+-- how many frames of a batch were accepted
+abbrev pub acceptedIn : Result Answer → ℕ
+acceptedIn (refused why) = 0
+acceptedIn (done ok) = 0
+acceptedIn (done (fates ls)) = 0
+acceptedIn (done (settings r)) = 0
+acceptedIn (done (ranges rs)) = 0
+acceptedIn (done (accepted n stop ls)) = n
+
+-- The tracks of the frames offered by a call: of an append that is not refused, the one that it names; of a batch those that its
+-- accepted frames name, in list order.
 abbrev pub offeredBy : Call → Result Answer → List ℕ
 offeredBy (appendCall lent f) (refused why) = []
 offeredBy (appendCall lent f) (done a) = f .track ∷ []
@@ -110,6 +131,7 @@ offeredBy (windowEndCall x) r = []
 offeredBy readCall r = []
 offeredBy (rangesCall lent track) r = []
 offeredBy (commonCall lent) r = []
+offeredBy (batchCall lent fs) r = map (λ (f : Offered). f .track) (take (acceptedIn r) fs)
 
 -- the tracks of all frames offered in a run: the n-th over all tracks is frame n
 unfoldable pub offers : List Entry → List ℕ
@@ -139,7 +161,7 @@ foundStored k b = count (λ (f : Frame). eqb k (f .number)) (b .frames)
 unfoldable pub foundTold : ℕ → List Entry → ℕ
 foundTold k es = count (λ (l : Line). eqb k (l .number)) (handedOut es)
 
--- Offered on a track: the run's appends not refused that name it.
+-- Offered on a track: the frames of the run's appends that name it and were not refused.
 unfoldable pub offeredOn : ℕ → List Entry → ℕ
 offeredOn track es = count (eqb track) (offers es)
 

@@ -1,5 +1,5 @@
 -- Document 01, "Soundings to check against": cases A to K in one table, each with its whole outcome, and one proof
--- over all of it; with them two refused calls of L in the midst of a run, and two removals of our own.
+-- over all of it; with them two refused calls of L in the midst of a run, two removals of our own, and batches (document 02, No. 2).
 -- Video, one track, durations 100; R is a flagged frame, P one that is not, both given by presentation and decode time.
 use mathlib.Core.Path.{_≡_, refl}
 use mathlib.Core.Bool.{Bool, true, false}
@@ -7,22 +7,26 @@ use mathlib.Core.List.{List, [], _∷_, map}
 use Prim.Native.Nat.{ℕ}
 use lib.IntN.{ℤ, pos, negℤ}
 use lib.Ieee.{Float, binary64, ofBits, ofInt, div}
+use lib.ListN.{replicate}
 use Rattle.seconds.specs.Seconds.{tieOf, roundOf, nearestOf, convertible, convertibleEnd, microsOf, secondsOf, boundOf, zeroSeconds, sameInt}
 use Rattle.buffer_state.specs.declared.Frame.{Frame}
 use Rattle.buffer_state.specs.declared.Track.{Track}
 use Rattle.buffer_state.specs.declared.Mode.the-variants.{Segments, Sequence}
 use Rattle.buffer_state.specs.declared.Group.{Group}
-use Rattle.buffer_state.specs.declared.Refusal.the-variants.{FrameLimits, Seconds}
+use Rattle.buffer_state.specs.declared.Offered.{Offered}
+use Rattle.buffer_state.specs.declared.Refusal.the-variants.{FrameLimits, LentSize, Seconds, ShortFates}
+use Rattle.buffer_state.specs.declared.Stop.the-variants.{Nothing, By}
 use Rattle.buffer_state.specs.declared.WindowEnd.the-variants.{Unbounded, At}
 use Rattle.buffer_state.specs.Buffer.{Buffer, fresh, freshTrack, freshSettings}
 use Rattle.buffer_state.specs.Limits.{offeredTime, resultTime, goodDuration}
 use Rattle.buffer_state.specs.Refusals.{Result, refused, done}
 use Rattle.buffer_state.specs.Store.{before, insertSorted, followsTaken, walkFrom, kept, Line, linesOf}
 use Rattle.buffer_state.specs.Append.{stepOne, stepTwo, passOf, fits, regrouped, breaks, secondPass, lastPass, leavesLimits, overlapped, overlapMarks, stepNine, stored, settled, appended, offerable, append}
+use Rattle.buffer_state.specs.Batch.{offeredIn, appendEach, batch}
 use Rattle.buffer_state.specs.Remove.{farEdge, removalMarks, afterLoss, removed, remove}
 use Rattle.buffer_state.specs.Settings.{aborted, modeSet, offsetSet, windowStartSet, windowEndSet}
 use Rattle.buffer_state.specs.Ranges.{Range, joined, rangesOf}
-use Rattle.buffer_state.specs.Run.{Call, appendCall, removeCall, abortCall, modeCall, offsetCall, windowStartCall, windowEndCall, Answer, ok, fates, Entry, replyTo, run, lastOf}
+use Rattle.buffer_state.specs.Run.{Call, appendCall, removeCall, abortCall, modeCall, offsetCall, windowStartCall, windowEndCall, batchCall, Answer, ok, fates, accepted, Entry, replyTo, run, lastOf}
 
 -- a case: the calls on a fresh buffer of one video track, and what they come to
 pub record Case : Type 0 where
@@ -33,11 +37,18 @@ pub record Case : Type 0 where
 
 -- ---- the words of the table
 
+abbrev offer : Bool → ℕ → ℕ → Offered
+offer flagged p d = record { track = 1; flagged = flagged; duration = 100; pts = pos p; dts = pos d }
+
 abbrev R : ℕ → ℕ → Call
-R p d = appendCall 1024 (record { track = 1; flagged = true; duration = 100; pts = pos p; dts = pos d })
+R p d = appendCall 1024 (offer true p d)
 
 abbrev P : ℕ → ℕ → Call
-P p d = appendCall 1024 (record { track = 1; flagged = false; duration = 100; pts = pos p; dts = pos d })
+P p d = appendCall 1024 (offer false p d)
+
+-- an offered frame that is refused
+abbrev brief : Offered
+brief = record { track = 1; flagged = true; duration = 0; pts = pos 100; dts = pos 100 }
 
 abbrev removing : Float → Float → Call
 removing = removeCall 1024
@@ -224,7 +235,7 @@ abbrev caseL : Case
 caseL = record {
   calls =
       R 0 0
-      ∷ appendCall 1024 (record { track = 1; flagged = true; duration = 0; pts = pos 100; dts = pos 100 })
+      ∷ appendCall 1024 brief
       ∷ offsetCall (double 0x412e_8480_0000_0001)
       ∷ P 100 100
       ∷ [];
@@ -253,6 +264,40 @@ caseN = record {
   ranges = [];
 }
 
+-- Ours: E in batches, with no frame, too many frames and too few lines in between. The last batch is stopped by its second frame, and its
+-- first stays.
+abbrev caseO : Case
+caseO = record {
+  calls =
+      batchCall 1088 (offer true 0 0 ∷ offer false 100 100 ∷ offer false 200 200 ∷ offer true 300 300 ∷ [])
+      ∷ batchCall 1088 []
+      ∷ batchCall 1087 (replicate 65 (offer true 400 400))
+      ∷ batchCall 1087 []
+      ∷ abortCall
+      ∷ batchCall 1088 (offer true 100 100 ∷ brief ∷ offer false 200 200 ∷ [])
+      ∷ [];
+  results =
+      done (accepted 4 Nothing [])
+      ∷ done (accepted 0 Nothing [])
+      ∷ refused LentSize
+      ∷ refused ShortFates
+      ∷ done ok
+      ∷ done (accepted 1 (By FrameLimits) (line 2 4 ∷ line 3 5 ∷ []))
+      ∷ [];
+  left = caseE .left;
+  ranges = caseE .ranges;
+}
+
+-- Ours: the lines of a batch are joined. P 0 finds no random access point, R 0 is kept, and so is R 100; R 0 breaks the group, and
+-- the first R goes, cause 4.
+abbrev caseP : Case
+caseP = record {
+  calls = batchCall 1088 (offer false 0 0 ∷ offer true 0 0 ∷ offer true 100 100 ∷ offer true 0 0 ∷ []) ∷ [];
+  results = done (accepted 4 Nothing (line 1 3 ∷ line 2 4 ∷ [])) ∷ [];
+  left = plain (following 0 100) (frame 4 true 0 0 ∷ frame 3 true 100 100 ∷ []) 100 4;
+  ranges = range 0 200 ∷ [];
+}
+
 -- The table. K: 0.0078125 gives 7812, 0.0234375 gives 23438, -0.0078125 gives -7812, the smallest positive double gives 0,
 -- 1,000,000 gives 1,000,000,000,000.
 abbrev pub table : List Case
@@ -266,7 +311,7 @@ table =
     ∷ caseK 0xbf80_0000_0000_0000 (negℤ (pos 7812))
     ∷ caseK 0x0000_0000_0000_0001 (pos 0)
     ∷ caseK 0x412e_8480_0000_0000 (pos 1000000000000)
-    ∷ caseL ∷ caseM ∷ caseN
+    ∷ caseL ∷ caseM ∷ caseN ∷ caseO ∷ caseP
     ∷ []
 
 -- what the definitions make of a case's calls
@@ -282,5 +327,22 @@ computed c =
     }
 
 pub soundings-hold : map computed table ≡ table
-unfolding tieOf roundOf nearestOf convertible convertibleEnd microsOf secondsOf boundOf sameInt offeredTime resultTime goodDuration before insertSorted followsTaken walkFrom kept linesOf stepOne stepTwo passOf fits regrouped breaks secondPass lastPass leavesLimits overlapped overlapMarks stepNine stored settled appended offerable append farEdge removalMarks afterLoss removed remove aborted modeSet offsetSet windowStartSet windowEndSet joined rangesOf replyTo run lastOf ofBits ofInt div
+unfolding tieOf roundOf nearestOf convertible convertibleEnd microsOf secondsOf boundOf sameInt offeredTime resultTime goodDuration before insertSorted followsTaken walkFrom kept linesOf stepOne stepTwo passOf fits regrouped breaks secondPass lastPass leavesLimits overlapped overlapMarks stepNine stored settled appended offerable append appendEach batch farEdge removalMarks afterLoss removed remove aborted modeSet offsetSet windowStartSet windowEndSet joined rangesOf replyTo run lastOf ofBits ofInt div
 soundings-hold = refl
+
+-- Rows of numbers as offered frames: one that is a frame, then tracks, durations and a flag that no frame can have.
+pub rows-offered : map offeredIn (
+    (pos 1 ∷ pos 5 ∷ negℤ (pos 5) ∷ pos 100 ∷ pos 1 ∷ pos 9 ∷ [])
+    ∷ (negℤ (pos 1) ∷ pos 5 ∷ pos 5 ∷ pos 4294967295 ∷ pos 0 ∷ pos 9 ∷ [])
+    ∷ (pos 4294967296 ∷ pos 5 ∷ pos 5 ∷ pos 4294967296 ∷ pos 0 ∷ pos 9 ∷ [])
+    ∷ (pos 2 ∷ pos 5 ∷ pos 5 ∷ negℤ (pos 100) ∷ pos 1 ∷ pos 9 ∷ [])
+    ∷ (pos 2 ∷ pos 5 ∷ pos 5 ∷ pos 100 ∷ pos 2 ∷ pos 9 ∷ [])
+    ∷ [])
+    ≡ record { track = 1; flagged = true; duration = 100; pts = pos 5; dts = negℤ (pos 5) }
+    ∷ record { track = 0; flagged = false; duration = 4294967295; pts = pos 5; dts = pos 5 }
+    ∷ record { track = 0; flagged = false; duration = 0; pts = pos 5; dts = pos 5 }
+    ∷ record { track = 2; flagged = true; duration = 0; pts = pos 5; dts = pos 5 }
+    ∷ record { track = 2; flagged = false; duration = 0; pts = pos 5; dts = pos 5 }
+    ∷ []
+unfolding offeredIn sameInt
+rows-offered = refl

@@ -91,6 +91,7 @@ pub enum Refusal {
     ShortList,
     Kinds,
     Malformed, // a segment; this and what follows are of document 02
+    LentSize, // what is lent has a size that the call does not take
 }
 
 // The number that the table gives it.
@@ -110,6 +111,7 @@ pub fn refusal_number(why: Refusal) -> u32
         Refusal::ShortList => 10,
         Refusal::Kinds => 11,
         Refusal::Malformed => 12,
+        Refusal::LentSize => 13,
     }
 }
 
@@ -151,4 +153,25 @@ pub fn refuse(h: Head, why: Refusal) -> Counted
         answer: Count::Refused(why),
         head: h,
     }
+}
+
+// What stopped a batch, if anything did: the refusal of a frame.
+pub enum Stop {
+    Nothing,
+    By(Refusal),
+}
+
+// What a batch answers: how many frames were accepted, how many fate lines were written, and what stopped it.
+pub enum Accepted {
+    Done {
+        frames: usize,
+        lines: usize,
+        stop: Stop,
+    },
+    Refused(Refusal),
+}
+
+pub struct Batched {
+    pub answer: Accepted,
+    pub head: Head,
 }

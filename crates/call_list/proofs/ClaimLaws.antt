@@ -1,12 +1,13 @@
 -- How a run ends, and what holds then.
 use mathlib.Core.Path.{_≡_, refl, sym, ap, subst, _∙_}
 use mathlib.Core.Bool.{Bool, true, false}
-use mathlib.Core.List.{List}
-use Prim.Native.Nat.{ℕ, _-_}
+use mathlib.Core.List.{List, []}
+use Prim.Native.Nat.{ℕ, suc, _-_, _≤_, _<_}
 use native.Mathlib.Omega.{arith}
 use lib.Dec.{leb}
 use lib.IntN.{ℤ}
-use lib.ListN.{length}
+use lib.ListN.{length, drop, getD, drop-of-length-le}
+use lib.Seq.{drop-cons}
 use Rattle.buffer_state.specs.declared.Answer as Code
 use Rattle.buffer_state.specs.declared.Answer.the-variants as Said
 use Rattle.buffer_state.specs.declared.Changed.{Changed}
@@ -17,7 +18,7 @@ use Rattle.buffer_state.specs.Lent.{lentOf, bufferIn}
 use Rattle.buffer_state.specs.Refusals.{Result, refused, done}
 use Rattle.buffer_state.specs.Run.{Call, run, total}
 use Rattle.buffer_state.specs.Settings.{create}
-use Rattle.buffer_state.specs.WellFormed.{allOf, goodBuffer}
+use Rattle.buffer_state.specs.WellFormed.{goodBuffer}
 use Rattle.buffer_laws.proofs.GoodLaws.{facts-good}
 use Rattle.buffer_laws.proofs.LentLaws.{held-back}
 use Rattle.account.specs.History.{Account}
@@ -26,25 +27,43 @@ use Rattle.call_rows.specs.Replies.{lent}
 use Rattle.call_list.specs.declared.Ending as End
 use Rattle.call_list.specs.declared.Ending.the-variants.{Done, Unfit, Refused}
 use Rattle.call_list.specs.declared.Ran.{Ran}
-use Rattle.call_list.specs.Listed.{rowFits, rangesOfRow, longEnough, fits, Lists, Replayed, endingOf, endingFor, noRun, Ends, Begun}
+use Rattle.call_list.specs.Listed.{rowFits, offersOfRow, rowsFit, rangesOfRow, longEnough, fits, Lists, Replayed, endingOf, endingFor, noRun, Ends, Begun}
 
 -- ---- whether a list can be run, test by test
 
-module _ (rows : List (List ℕ)) (stamps seconds answers lines spans readings : ℕ) where
+module _ (rows : List (List ℕ)) (stamps seconds frames answers lines spans readings : ℕ) where
   abbrev long : Bool
-  long = longEnough (length rows) stamps seconds answers lines readings
+  long = longEnough (length rows) stamps seconds answers readings
 
-  pub not-long : long ≡ false → false ≡ fits rows stamps seconds answers lines spans readings
+  abbrev fit : Bool
+  fit = fits rows stamps seconds frames answers lines spans readings
+
+  pub not-long : long ≡ false → false ≡ fit
   unfolding fits
   not-long e = rw e
 
-  pub rows-unfit : long ≡ true → allOf (rowFits (lines - length rows)) rows ≡ false → false ≡ fits rows stamps seconds answers lines spans readings
+  pub rows-unfit : long ≡ true → rowsFit frames lines rows ≡ false → false ≡ fit
   unfolding fits
   rows-unfit e f = rw (e, f)
 
-  pub by-ranges : long ≡ true → allOf (rowFits (lines - length rows)) rows ≡ true → leb (total rangesOfRow rows) spans ≡ fits rows stamps seconds answers lines spans readings
+  pub by-ranges : long ≡ true → rowsFit frames lines rows ≡ true → leb (total rangesOfRow rows) spans ≡ fit
   unfolding fits
   by-ranges e f = rw (e, f)
+
+-- row by row
+module _ (frames room : ℕ) (rows : List (List ℕ)) (i : ℕ) where
+  pub rows-stop : i < length rows → rowFits frames room (getD rows i []) ≡ false → rowsFit frames room (drop i rows) ≡ false
+  unfolding rowsFit
+  rows-stop h e = rw (drop-cons rows i [] h, e)
+
+  pub rows-step : i < length rows → rowFits frames room (getD rows i []) ≡ true
+      → rowsFit frames room (drop i rows) ≡ rowsFit frames (room - offersOfRow (getD rows i [])) (drop (suc i) rows)
+  unfolding rowsFit
+  rows-step h e = rw (drop-cons rows i [] h, e)
+
+  pub rows-end : length rows ≤ i → rowsFit frames room (drop i rows) ≡ true
+  unfolding rowsFit
+  rows-end h = rw (drop-of-length-le rows {i = i} h)
 
 -- ---- how it ends
 

@@ -5,13 +5,15 @@ use Prim.Native.Nat.{ℕ, zero, suc, _+_, _-_, _≤_, _<_}
 use native.Mathlib.Nat.{add-zero}
 use native.Mathlib.Numerals.{add-one}
 use native.Mathlib.Omega.{arith}
-use lib.ListN.{length, take, drop, set, length-append, length-drop, take-append-drop}
+use lib.ListN.{length, take, drop, set, length-append, length-drop, length-map, take-append-drop}
 use lib.Seq.{take-at, set-split, drop-append-add, drop-drop}
+use Rattle.buffer_state.specs.declared.Offered.{Offered}
 use Rattle.buffer_state.specs.Buffer.{Buffer}
 use Rattle.buffer_state.specs.Refusals.{Result, refused, done}
-use Rattle.buffer_state.specs.Run.{Call, appendCall, removeCall, abortCall, modeCall, offsetCall, windowStartCall, windowEndCall, readCall, rangesCall, commonCall, Answer, Entry, replyTo, run, lastOf, linesIn, handedOut, offeredBy, offers, total}
+use Rattle.buffer_state.specs.Run.{Call, appendCall, removeCall, abortCall, modeCall, offsetCall, windowStartCall, windowEndCall, readCall, rangesCall, commonCall, batchCall, Answer, Entry, replyTo, run, lastOf, linesIn, handedOut, acceptedIn, offeredBy, offers, total}
 use Rattle.buffer_state.specs.Store.{Line}
-use Rattle.buffer_laws.proofs.RunLaws.{numbersAfter, run-lawful}
+use Rattle.buffer_laws.proofs.CallLaws.{numbersAfter, total-ones}
+use Rattle.buffer_laws.proofs.RunLaws.{run-lawful}
 use Rattle.buffer_laws.proofs.StoreLaws.{frameWeight}
 use Rattle.call_list.specs.Listed.{allOut, Filled}
 use Rattle.call_rows.specs.Replies.{writtenAt}
@@ -85,38 +87,51 @@ module _ {A : Type 0} where
 
 -- ---- how much is handed out
 
-total-ones : {A : Type 0} (l : List A) → total (λ _. 1) l ≡ length l
-unfolding total
-total-ones [] = refl
-total-ones (x ∷ l) = omega (arith, total-ones l)
-
 numbers-length : (n k : ℕ) → length (numbersAfter n k) ≡ k
 unfolding numbersAfter
 numbers-length n zero = refl
 numbers-length n (suc k) = omega (arith, numbers-length (n + 1) k)
 
-offered-once : (c : Call) (r : Result Answer) → length (offeredBy c r) ≤ 1
-offered-once (appendCall lent f) (refused why) = omega arith
-offered-once (appendCall lent f) (done a) = omega arith
-offered-once (removeCall lent start end) r = omega arith
-offered-once abortCall r = omega arith
-offered-once (modeCall m) r = omega arith
-offered-once (offsetCall x) r = omega arith
-offered-once (windowStartCall x) r = omega arith
-offered-once (windowEndCall x) r = omega arith
-offered-once readCall r = omega arith
-offered-once (rangesCall lent track) r = omega arith
-offered-once (commonCall lent) r = omega arith
+-- the frames that a call offers
+abbrev pub framesIn : Call → ℕ
+framesIn (appendCall lent f) = 1
+framesIn (removeCall lent start end) = 0
+framesIn abortCall = 0
+framesIn (modeCall m) = 0
+framesIn (offsetCall x) = 0
+framesIn (windowStartCall x) = 0
+framesIn (windowEndCall x) = 0
+framesIn readCall = 0
+framesIn (rangesCall lent track) = 0
+framesIn (commonCall lent) = 0
+framesIn (batchCall lent fs) = length fs
 
-offers-few : (b : Buffer) (cs : List Call) → length (offers (run b cs)) ≤ length cs
-unfolding run offers
+take-few : {A : Type 0} (n : ℕ) (l : List A) → length (take n l) ≤ length l
+take-few n l = omega (arith, ap length (take-append-drop n l), length-append (take n l) (drop n l))
+
+offered-few : (c : Call) (r : Result Answer) → length (offeredBy c r) ≤ framesIn c
+offered-few (appendCall lent f) (refused why) = omega arith
+offered-few (appendCall lent f) (done a) = omega arith
+offered-few (removeCall lent start end) r = omega arith
+offered-few abortCall r = omega arith
+offered-few (modeCall m) r = omega arith
+offered-few (offsetCall x) r = omega arith
+offered-few (windowStartCall x) r = omega arith
+offered-few (windowEndCall x) r = omega arith
+offered-few readCall r = omega arith
+offered-few (rangesCall lent track) r = omega arith
+offered-few (commonCall lent) r = omega arith
+offered-few (batchCall lent fs) r = omega (arith, length-map (take (acceptedIn r) fs) (λ (f : Offered). f .track), take-few (acceptedIn r) fs)
+
+offers-few : (b : Buffer) (cs : List Call) → length (offers (run b cs)) ≤ total framesIn cs
+unfolding run offers total
 offers-few b [] = omega arith
 offers-few b (c ∷ cs) =
     let r = replyTo c b in
-    omega (arith, length-append (offeredBy c (r .result)) (offers (run (r .after) cs)), offered-once c (r .result), offers-few (r .after) cs)
+    omega (arith, length-append (offeredBy c (r .result)) (offers (run (r .after) cs)), offered-few c (r .result), offers-few (r .after) cs)
 
--- from a buffer without frames there are never more lines than calls
-pub lines-few : (b : Buffer) (cs : List Call) → b .frames ≡ [] → length (handedOut (run b cs)) ≤ length cs
+-- from a buffer without frames there are never more lines than frames offered
+pub lines-few : (b : Buffer) (cs : List Call) → b .frames ≡ [] → length (handedOut (run b cs)) ≤ total framesIn cs
 unfolding total
 lines-few b cs e =
     let w : frameWeight (λ _. 1) (b .frames) ≡ 0 = ap (frameWeight (λ _. 1)) e in

@@ -1,6 +1,6 @@
 -- The loop over a list of calls: what holds after the first i of them, and one turn.
 use mathlib.Core.Path.{_≡_, refl, sym, ap, subst, _∙_}
-use mathlib.Core.Bool.{Bool, true}
+use mathlib.Core.Bool.{true}
 use mathlib.Core.List.{List, [], _∷_, _++_, map}
 use Prim.Native.Nat.{ℕ, zero, suc, _+_, _-_, _≤_, _<_}
 use native.Mathlib.Omega.{arith}
@@ -18,25 +18,20 @@ use Rattle.buffer_state.specs.Ranges.{Range}
 use Rattle.buffer_state.specs.Refusals.{Result}
 use Rattle.buffer_state.specs.Run.{Call, Answer, Entry, replyTo, run, lastOf, linesIn, total}
 use Rattle.buffer_state.specs.Store.{Line}
-use Rattle.buffer_state.specs.WellFormed.{allOf, goodBuffer}
+use Rattle.buffer_state.specs.WellFormed.{goodBuffer}
 use Rattle.buffer_laws.proofs.GoodLaws.{good-facts, facts-good}
 use Rattle.buffer_laws.proofs.LentLaws.{laid-well-formed, held-back}
+use Rattle.buffer_laws.proofs.CallLaws.{total-append}
 use Rattle.buffer_laws.proofs.RunLaws.{run-lawful}
-use Rattle.buffer_laws.proofs.TestLaws.{all-first, all-rest}
 use Rattle.call_list.specs.declared.Ending.the-variants.{Done}
 use Rattle.call_rows.specs.declared.Step.{Step}
 use Rattle.call_rows.specs.Encoded.{ofLines, ofRanges, rowCall}
 use Rattle.call_rows.specs.Replies.{lent, Replied, laidReply, replyOn, stepOf, sizeOf, rangesIn, writtenAt, CalledAt}
-use Rattle.call_list.specs.Listed.{firstCalls, encodedCalls, answerOf, readingsIn, allOut, noted, Filled, Lists, rowFits, rangesOfRow, longEnough, fits, fitsIn, Replayed}
-use Rattle.call_list.proofs.ListedLaws.{entryOf, last-more, run-more, out-more, lines-out, map-append, filled-none, filled-more, refilled, set-written, lines-few}
-use Rattle.call_list.proofs.ShapeLaws.{Shape, row-shape}
+use Rattle.call_list.specs.Listed.{firstFrame, frameCount, framesOfRow, firstCalls, encodedCalls, answerOf, readingsIn, allOut, noted, Filled, Lists, rowFits, offersOfRow, rowsFit, rangesOfRow, longEnough, fits, fitsIn, Replayed}
+use Rattle.call_list.proofs.ListedLaws.{entryOf, last-more, run-more, out-more, lines-out, map-append, filled-none, filled-inside, filled-more, refilled, set-written, framesIn, lines-few}
+use Rattle.call_list.proofs.ShapeLaws.{Shape, row-shape, row-offers}
 
 -- ---- an element of a list, by its place
-
-all-at : {A : Type 0} (p : A → Bool) (l : List A) (i : ℕ) (z : A) → i < length l → allOf p l ≡ true → p (getD l i z) ≡ true
-all-at p [] i z h e = absurd (omega arith)
-all-at p (x ∷ l) zero z h e = all-first p x l e
-all-at p (x ∷ l) (suc i) z h e = all-at p l i z (omega arith) (all-rest p x l e)
 
 module _ {A : Type 0} (f : A → ℕ) where
   pub total-next : (l : List A) (i : ℕ) (z : A) → i < length l → total f (take (suc i) l) ≡ total f (take i l) + f (getD l i z)
@@ -54,33 +49,43 @@ module _ {A : Type 0} (f : A → ℕ) where
 
 -- ---- a list that fits
 
-pub record Room (rows : List (List ℕ)) (ts : List (List ℤ)) (xs : List (List Float)) (l : Lists) : Type 0 where
+pub record Room (rows : List (List ℕ)) (ts : List (List ℤ)) (xs : List (List Float)) (frames : List (List ℤ)) (l : Lists) : Type 0 where
   pub stamps : length rows ≤ length ts
   pub seconds : length rows ≤ length xs
   pub answers : length rows ≤ length (l .answers)
-  pub lines : length rows ≤ length (l .lines)
   pub readings : length rows ≤ length (l .readings)
-  pub each : allOf (rowFits (length (l .lines) - length rows)) rows ≡ true
+  pub each : rowsFit (length frames) (length (l .lines)) rows ≡ true
   pub ranges : total rangesOfRow rows ≤ length (l .ranges)
 
-pub room : (rows : List (List ℕ)) (ts : List (List ℤ)) (xs : List (List Float)) (l : Lists) → fitsIn rows ts xs l ≡ true → Room rows ts xs l
+pub room : (rows : List (List ℕ)) (ts : List (List ℤ)) (xs : List (List Float)) (frames : List (List ℤ)) (l : Lists) → fitsIn rows ts xs frames l ≡ true
+    → Room rows ts xs frames l
 unfolding fits
-room rows ts xs l e =
+room rows ts xs frames l e =
     let n = length rows in
-    let long = and-left (longEnough n (length ts) (length xs) (length (l .answers)) (length (l .lines)) (length (l .readings))) _ e in
-    let rest = and-right (longEnough n (length ts) (length xs) (length (l .answers)) (length (l .lines)) (length (l .readings))) _ e in
+    let long = and-left (longEnough n (length ts) (length xs) (length (l .answers)) (length (l .readings))) _ e in
+    let rest = and-right (longEnough n (length ts) (length xs) (length (l .answers)) (length (l .readings))) _ e in
     let l₁ = and-right (leb n (length ts)) _ long in
     let l₂ = and-right (leb n (length xs)) _ l₁ in
-    let l₃ = and-right (leb n (length (l .answers))) _ l₂ in
     record {
       stamps = leb-true n (length ts) (and-left (leb n (length ts)) _ long);
       seconds = leb-true n (length xs) (and-left (leb n (length xs)) _ l₁);
       answers = leb-true n (length (l .answers)) (and-left (leb n (length (l .answers))) _ l₂);
-      lines = leb-true n (length (l .lines)) (and-left (leb n (length (l .lines))) _ l₃);
-      readings = leb-true n (length (l .readings)) (and-right (leb n (length (l .lines))) _ l₃);
-      each = and-left (allOf (rowFits (length (l .lines) - n)) rows) _ rest;
-      ranges = leb-true (total rangesOfRow rows) (length (l .ranges)) (and-right (allOf (rowFits (length (l .lines) - n)) rows) _ rest);
+      readings = leb-true n (length (l .readings)) (and-right (leb n (length (l .answers))) _ l₂);
+      each = and-left (rowsFit (length frames) (length (l .lines)) rows) _ rest;
+      ranges = leb-true (total rangesOfRow rows) (length (l .ranges)) (and-right (rowsFit (length frames) (length (l .lines)) rows) _ rest);
     }
+
+-- a row has the room that the rows before it leave
+row-at : (frames lines : ℕ) (rows : List (List ℕ)) (i : ℕ) → i < length rows → rowsFit frames lines rows ≡ true
+    → rowFits frames (lines - total offersOfRow (take i rows)) (getD rows i []) ≡ true
+unfolding rowsFit total
+row-at frames lines [] i h e = absurd (omega arith)
+row-at frames lines (row ∷ rows) zero h e =
+    let all : lines - 0 ≡ lines = omega arith in
+    rw all (and-left (rowFits frames lines row) _ e)
+row-at frames lines (row ∷ rows) (suc i) h e =
+    let less : lines - offersOfRow row - total offersOfRow (take i rows) ≡ lines - (offersOfRow row + total offersOfRow (take i rows)) = omega arith in
+    rw (← less) (row-at frames (lines - offersOfRow row) rows i (omega arith) (and-right (rowFits frames lines row) _ e))
 
 -- ---- a call on the state that holds a good buffer
 
@@ -93,20 +98,34 @@ noted-few kind doubles = by-test (λ (l : List (List Float)). length l ≤ 1) (e
 
 -- ---- after the first i calls
 
-module _ (rows : List (List ℕ)) (stamps : List (List ℤ)) (seconds : List (List Float)) (b₀ : Buffer) (before : Lists) where
-  pub calls-length : (i : ℕ) → length (firstCalls rows stamps seconds i) ≡ i
+module _ (rows : List (List ℕ)) (stamps : List (List ℤ)) (seconds : List (List Float)) (frames : List (List ℤ)) (b₀ : Buffer) (before : Lists) where
+  pub calls-length : (i : ℕ) → length (firstCalls rows stamps seconds frames i) ≡ i
   unfolding firstCalls
   calls-length zero = refl
-  calls-length (suc i) = omega (arith, length-append (firstCalls rows stamps seconds i) (rowCall (getD rows i []) (getD stamps i []) (getD seconds i []) ∷ []), calls-length i)
+  calls-length (suc i) = omega (arith, length-append (firstCalls rows stamps seconds frames i) (rowCall (getD rows i []) (getD stamps i []) (getD seconds i []) (framesOfRow (getD rows i []) frames) ∷ []), calls-length i)
+
+  calls-offer : (i : ℕ) → i ≤ length rows → total framesIn (firstCalls rows stamps seconds frames i) ≤ total offersOfRow (take i rows)
+  unfolding firstCalls total
+  calls-offer zero h = omega arith
+  calls-offer (suc i) h =
+      let row = getD rows i [] in
+      let c = rowCall row (getD stamps i []) (getD seconds i []) (framesOfRow row frames) in
+      omega (
+        arith,
+        total-append framesIn (firstCalls rows stamps seconds frames i) (c ∷ []),
+        calls-offer i (omega arith),
+        row-offers row (getD stamps i []) (getD seconds i []) frames,
+        total-next offersOfRow rows i [] h,
+      )
 
   -- the head and the arrays hold what the calls so far lead to
   pub record Sofar (after : Lists) (h : Head) (at placed read i : ℕ) : Type 0 where
     pub inside : i ≤ length rows
-    pub state : lent h (after .times) (after .tags) ≡ lentOf (lastOf b₀ (firstCalls rows stamps seconds i))
-    pub answers : Filled (map answerOf (run b₀ (firstCalls rows stamps seconds i))) (before .answers) (after .answers) i
-    pub lines : Filled (written (allOut linesIn (run b₀ (firstCalls rows stamps seconds i)))) (before .lines) (after .lines) at
-    pub ranges : Filled (laid (allOut rangesIn (run b₀ (firstCalls rows stamps seconds i)))) (before .ranges) (after .ranges) placed
-    pub readings : Filled (allOut readingsIn (run b₀ (firstCalls rows stamps seconds i))) (before .readings) (after .readings) read
+    pub state : lent h (after .times) (after .tags) ≡ lentOf (lastOf b₀ (firstCalls rows stamps seconds frames i))
+    pub answers : Filled (map answerOf (run b₀ (firstCalls rows stamps seconds frames i))) (before .answers) (after .answers) i
+    pub lines : Filled (written (allOut linesIn (run b₀ (firstCalls rows stamps seconds frames i)))) (before .lines) (after .lines) at
+    pub ranges : Filled (laid (allOut rangesIn (run b₀ (firstCalls rows stamps seconds frames i)))) (before .ranges) (after .ranges) placed
+    pub readings : Filled (allOut readingsIn (run b₀ (firstCalls rows stamps seconds frames i))) (before .readings) (after .readings) read
     pub placed-few : placed ≤ total rangesOfRow (take i rows)
     pub read-few : read ≤ i
 
@@ -123,13 +142,13 @@ module _ (rows : List (List ℕ)) (stamps : List (List ℤ)) (seconds : List (Li
     read-few = omega arith;
   }
 
-  module _ (good : goodBuffer b₀ ≡ true) (empty : b₀ .frames ≡ []) (fit : Room rows stamps seconds before)
+  module _ (good : goodBuffer b₀ ≡ true) (empty : b₀ .frames ≡ []) (fit : Room rows stamps seconds frames before)
       (after : Lists) (k : Head) (at placed read i : ℕ) (S : Sofar after k at placed read i) (h : i < length rows) where
     abbrev s : Lent
     s = lent k (after .times) (after .tags)
 
     abbrev cs : List Call
-    cs = firstCalls rows stamps seconds i
+    cs = firstCalls rows stamps seconds frames i
 
     abbrev b : Buffer
     b = lastOf b₀ cs
@@ -137,7 +156,7 @@ module _ (rows : List (List ℕ)) (stamps : List (List ℤ)) (seconds : List (Li
     b-good : goodBuffer b ≡ true
     b-good = facts-good b (run-lawful b₀ cs .good (good-facts b₀ good))
 
-    at-few : at ≤ i
+    at-few : at ≤ total offersOfRow (take i rows)
     at-few =
         omega (
           arith,
@@ -145,18 +164,22 @@ module _ (rows : List (List ℕ)) (stamps : List (List ℤ)) (seconds : List (Li
           length-map (allOut linesIn (run b₀ cs)) (λ (l : Line). l .number ∷ l .cause ∷ []),
           ap length (lines-out (run b₀ cs)),
           lines-few b₀ cs empty,
-          calls-length i,
+          calls-offer i (S .inside),
         )
 
     module _ (row : List ℕ) (er : row ≡ getD rows i []) where
-      row-fits : rowFits (length (before .lines) - length rows) row ≡ true
-      row-fits = rw er (all-at (rowFits (length (before .lines) - length rows)) rows i [] h (fit .each))
+      row-fits : rowFits (length frames) (length (before .lines) - total offersOfRow (take i rows)) row ≡ true
+      row-fits = rw er (row-at (length frames) (length (before .lines)) rows i h (fit .each))
 
+      -- where the frames offered so far are more than the lines, nothing is asked for
       pub lines-room : at + ofLines (getD row 0 0) (getD row 4 0) ≤ length (after .lines)
       lines-room =
-          let k : ofLines (getD row 0 0) (getD row 4 0) ≤ length (before .lines) - length rows = leb-true _ _ (and-right (leb (getD row 0 0) 9) _ row-fits) in
-          let n = fit .lines in
-          omega (arith, at-few, S .lines .same)
+          let k : ofLines (getD row 0 0) (getD row 4 0) ≤ length (before .lines) - total offersOfRow (take i rows) =
+          leb-true _ _ (and-left _ _ (and-right (leb (getD row 0 0) 10) _ row-fits)) in
+          omega (arith, at-few, filled-inside (S .lines), S .lines .same)
+
+      pub frames-room : firstFrame row + frameCount row ≤ length frames
+      frames-room = leb-true _ _ (and-right (leb (ofLines (getD row 0 0) (getD row 4 0)) _) _ (and-right (leb (getD row 0 0) 10) _ row-fits))
 
       row-total : total rangesOfRow (take (suc i) rows) ≡ total rangesOfRow (take i rows) + rangesOfRow row
       row-total = rw er (total-next rangesOfRow rows i [] h)
@@ -166,13 +189,13 @@ module _ (rows : List (List ℕ)) (stamps : List (List ℤ)) (seconds : List (Li
 
       module _ (stamp : List ℤ) (second : List Float) (et : stamp ≡ getD stamps i []) (ex : second ≡ getD seconds i []) where
         abbrev c : Call
-        c = rowCall row stamp second
+        c = rowCall row stamp second (framesOfRow row frames)
 
         abbrev e : Entry
         e = entryOf c b
 
         abbrev next : List Call
-        next = firstCalls rows stamps seconds (suc i)
+        next = firstCalls rows stamps seconds frames (suc i)
 
         next-calls : next ≡ cs ++ (c ∷ [])
         unfolding firstCalls
@@ -188,11 +211,11 @@ module _ (rows : List (List ℕ)) (stamps : List (List ℤ)) (seconds : List (Li
         next-out of = ap (allOut of) next-run ∙ out-more of (run b₀ cs) e
 
         shape : Shape (getD row 0 0) (getD row 4 0) (e .result)
-        shape = row-shape row stamp second b
+        shape = row-shape row stamp second (framesOfRow row frames) b
 
         pub turn : (t : Step) (answers lines : List (List ℕ)) (spans : List (List ℤ)) (readings : List (List Float)) (ts : List (List ℤ)) (gs : List (List ℕ)) (at′ placed′ read′ : ℕ)
             → CalledAt (replyOn c s) t ts gs (after .lines) at lines (after .ranges) placed spans → length lines ≡ length (after .lines) → length spans ≡ length (after .ranges)
-            → answers ≡ set (after .answers) i (t .refusal ∷ t .count ∷ [])
+            → answers ≡ set (after .answers) i (t .refusal ∷ t .count ∷ t .accepted ∷ t .stop ∷ [])
             → readings ≡ writtenAt (after .readings) read (noted (getD row 0 0) (t .doubles)) → length readings ≡ length (after .readings)
             → at′ ≡ at + ofLines (getD row 0 0) (t .count) → placed′ ≡ placed + ofRanges (getD row 0 0) (t .count) → read′ ≡ read + length (noted (getD row 0 0) (t .doubles))
             → Sofar (record { answers = answers; lines = lines; ranges = spans; readings = readings; times = ts; tags = gs }) (t .head) at′ placed′ read′ (suc i)
@@ -205,7 +228,7 @@ module _ (rows : List (List ℕ)) (stamps : List (List ℤ)) (seconds : List (Li
             let nlines : ofLines (getD row 0 0) (t .count) ≡ length (linesIn (e .result)) = ap (ofLines (getD row 0 0)) count ∙ shape .lines in
             let nranges : ofRanges (getD row 0 0) (t .count) ≡ length (rangesIn (e .result)) = ap (ofRanges (getD row 0 0)) count ∙ shape .ranges in
             let wrote : answers ≡ writtenAt (after .answers) i (answerOf e ∷ []) =
-            ea ∙ set-written (after .answers) i _ (omega (arith, S .answers .same, fit .answers)) ∙ ap (λ (x : Step). writtenAt (after .answers) i ((x .refusal ∷ x .count ∷ []) ∷ [])) told in
+            ea ∙ set-written (after .answers) i _ (omega (arith, S .answers .same, fit .answers)) ∙ ap (λ (x : Step). writtenAt (after .answers) i ((x .refusal ∷ x .count ∷ x .accepted ∷ x .stop ∷ []) ∷ [])) told in
             record {
               inside = omega arith;
               state =
@@ -232,7 +255,7 @@ module _ (rows : List (List ℕ)) (stamps : List (List ℤ)) (seconds : List (Li
             }
 
   pub ended : (after : Lists) (k : Head) (at placed read i : ℕ) → Sofar after k at placed read i → length rows ≤ i
-      → Replayed b₀ (encodedCalls rows stamps seconds) (record { ending = Done; lines = at; ranges = placed; readings = read; head = k }) before after
+      → Replayed b₀ (encodedCalls rows stamps seconds frames) (record { ending = Done; lines = at; ranges = placed; readings = read; head = k }) before after
   ended after k at placed read i S h =
       let n : i ≡ length rows = omega (arith, S .inside) in
       let all : Sofar after k at placed read (length rows) = subst (Sofar after k at placed read) n S in
@@ -240,7 +263,7 @@ module _ (rows : List (List ℕ)) (stamps : List (List ℤ)) (seconds : List (Li
         ending = refl;
         state = all .state;
         answers = refilled refl (sym (calls-length (length rows))) (all .answers);
-        lines = refilled (ap written (lines-out (run b₀ (encodedCalls rows stamps seconds)))) refl (all .lines);
+        lines = refilled (ap written (lines-out (run b₀ (encodedCalls rows stamps seconds frames)))) refl (all .lines);
         ranges = all .ranges;
         readings = all .readings;
       }

@@ -1,5 +1,6 @@
 -- A call that is lent a part of a longer list: the part goes back into its place.
 use mathlib.Core.Path.{_≡_, sym, ap, subst, _∙_}
+use mathlib.Core.Bool.{false}
 use mathlib.Core.List.{List, _++_, append-assoc}
 use Prim.Native.Nat.{ℕ, _+_, _-_, _≤_}
 use native.Mathlib.Omega.{arith}
@@ -16,19 +17,21 @@ use Rattle.buffer_state.specs.Answers.{written, laid}
 use Rattle.buffer_state.specs.Run.{Call, linesIn}
 use Rattle.call_rows.specs.declared.Step.{Step}
 use Rattle.call_rows.specs.Encoded.{callOf, ofLines, ofRanges, rowCall}
+use Rattle.call_list.specs.Listed.{firstFrame, frameCount, framesOfRow}
 use Rattle.call_rows.specs.Replies.{replyOn, rangesIn, Stepped, writtenAt, CalledAt}
 
 -- a row's call is lent as many places as its kind makes of what the row asks for
-call-lent : (row : List ℕ) (stamps : List ℤ) (seconds : List Float)
-    → callOf row stamps seconds (ofLines (getD row 0 0) (getD row 4 0)) (ofRanges (getD row 0 0) (getD row 4 0)) ≡ rowCall row stamps seconds
-call-lent row stamps seconds =
+call-lent : (row : List ℕ) (stamps : List ℤ) (seconds : List Float) (frames : List (List ℤ))
+    → callOf row stamps seconds frames (ofLines (getD row 0 0) (getD row 4 0)) (ofRanges (getD row 0 0) (getD row 4 0)) ≡ rowCall row stamps seconds frames
+call-lent row stamps seconds frames =
     split (ltb (getD row 0 0) 2) (λ a. rw a)
     (λ a. split (ltb (getD row 0 0) 7) (λ b. rw (a, b))
     (λ b. split (eqb (getD row 0 0) 7) (λ c. rw (a, b, c))
     (λ c.
     let h : 7 ≤ getD row 0 0 = ltb-false (getD row 0 0) 7 b in
     let g : getD row 0 0 ≡ 7 → ⊥ = eqb-false (getD row 0 0) 7 c in
-    rw (a, b, c, le-ltb (getD row 0 0) 8 (omega (arith, g))))))
+    let k : ltb (getD row 0 0) 8 ≡ false = le-ltb (getD row 0 0) 8 (omega (arith, g)) in
+    split (ltb (getD row 0 0) 10) (λ d. rw (a, b, c, d, k)) (λ d. rw (a, b, c, d)))))
 
 part-length : {A : Type 0} (xs : List A) (at k : ℕ) → at + k ≤ length xs → length (midOf at k xs) ≡ k
 part-length xs at k inside = length-take-le k (drop at xs) (omega (arith, length-drop at xs))
@@ -44,20 +47,26 @@ module _ {A : Type 0} (xs : List A) (at k : ℕ) (new part : List A) where
       ap (λ (p : List A). take at xs ++ (p ++ drop k (drop at xs))) e
       ∙ ap (λ (p : List A). take at xs ++ p) (append-assoc new (drop (length new) (midOf at k xs)) (drop k (drop at xs)) ∙ ap (λ (p : List A). new ++ p) rest)
 
-module _ (row : List ℕ) (stamps : List ℤ) (seconds : List Float) (s : Lent) (t : Step) (ts : List (List ℤ)) (gs : List (List ℕ)) (lines₀ : List (List ℕ)) (at n : ℕ) (spans₀ : List (List ℤ)) (placed m : ℕ)
-    (en : n ≡ ofLines (getD row 0 0) (getD row 4 0)) (em : m ≡ ofRanges (getD row 0 0) (getD row 4 0))
+module _ (row : List ℕ) (stamps : List ℤ) (seconds : List Float) (frames : List (List ℤ)) (first count : ℕ) (s : Lent) (t : Step) (ts : List (List ℤ)) (gs : List (List ℕ)) (lines₀ : List (List ℕ)) (at n : ℕ) (spans₀ : List (List ℤ)) (placed m : ℕ)
+    (ef : first ≡ firstFrame row) (ec : count ≡ frameCount row) (en : n ≡ ofLines (getD row 0 0) (getD row 4 0)) (em : m ≡ ofRanges (getD row 0 0) (getD row 4 0))
     (hn : at + n ≤ length lines₀) (hm : placed + m ≤ length spans₀) where
-  same-call : callOf row stamps seconds (length (midOf at n lines₀)) (length (midOf placed m spans₀)) ≡ rowCall row stamps seconds
-  same-call = rw (part-length lines₀ at n hn, part-length spans₀ placed m hm, en, em) (call-lent row stamps seconds)
+  abbrev made : Call
+  made = callOf row stamps seconds (take count (drop first frames)) (length (midOf at n lines₀)) (length (midOf placed m spans₀))
+
+  abbrev meant : Call
+  meant = rowCall row stamps seconds (framesOfRow row frames)
+
+  same-call : made ≡ meant
+  same-call = rw (part-length lines₀ at n hn, part-length spans₀ placed m hm, ef, ec, en, em) (call-lent row stamps seconds (framesOfRow row frames))
 
   pub called-at : (p : List (List ℕ)) (q : List (List ℤ))
-      → Stepped (replyOn (callOf row stamps seconds (length (midOf at n lines₀)) (length (midOf placed m spans₀))) s) t ts gs (midOf at n lines₀) p (midOf placed m spans₀) q
+      → Stepped (replyOn made s) t ts gs (midOf at n lines₀) p (midOf placed m spans₀) q
       → length p ≡ length (midOf at n lines₀) → length q ≡ length (midOf placed m spans₀)
-      → CalledAt (replyOn (rowCall row stamps seconds) s) t ts gs lines₀ at (putMid at n lines₀ p) spans₀ placed (putMid placed m spans₀ q)
+      → CalledAt (replyOn meant s) t ts gs lines₀ at (putMid at n lines₀ p) spans₀ placed (putMid placed m spans₀ q)
   called-at p q h l k =
-      let g : Stepped (replyOn (rowCall row stamps seconds) s) t ts gs (midOf at n lines₀) p (midOf placed m spans₀) q =
+      let g : Stepped (replyOn meant s) t ts gs (midOf at n lines₀) p (midOf placed m spans₀) q =
       subst (λ (c : Call). Stepped (replyOn c s) t ts gs (midOf at n lines₀) p (midOf placed m spans₀) q) same-call h in
-      let r = replyOn (rowCall row stamps seconds) s .result in
+      let r = replyOn meant s .result in
       record {
         step = g .step;
         times = g .times;

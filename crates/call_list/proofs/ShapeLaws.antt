@@ -1,25 +1,28 @@
--- What a row's kind says of its result: lines, ranges or a reading, and never more ranges than places lent.
+-- What a row's kind says of its result: lines, ranges or a reading, and never more ranges than places lent; and how many frames its call
+-- offers.
 use mathlib.Core.Path.{_≡_, refl}
 use mathlib.Core.Bool.{not}
-use mathlib.Core.List.{List}
-use Prim.Native.Nat.{ℕ, _≤_, _<_}
+use mathlib.Core.List.{List, [], _∷_, map}
+use Prim.Native.Nat.{ℕ, zero, suc, _≤_, _<_}
 use native.Mathlib.Omega.{arith}
 use borrow.Author.Tests.{lt-ltb, le-ltb, ltb-true, ltb-false, eqb-true, eqb-false, ne-eqb}
 use lib.Dec.{ltb, eqb}
 use lib.IntN.{ℤ}
 use lib.Ieee.{Float, nan}
-use lib.ListN.{length, getD}
+use lib.ListN.{length, take, drop, getD, length-map}
 use Rattle.laws.proofs.BoolLaws.{split, by-test}
 use Rattle.buffer_state.specs.Append.{Outcome, append}
+use Rattle.buffer_state.specs.Batch.{Batch, offeredIn, batch}
 use Rattle.buffer_state.specs.Buffer.{Buffer, hasTrack}
 use Rattle.buffer_state.specs.Ranges.{Range, rangesOf, commonRangesOf, trackRanges, commonRanges}
 use Rattle.buffer_state.specs.Refusals.{Result, refused, done}
 use Rattle.buffer_state.specs.Remove.{remove}
-use Rattle.buffer_state.specs.Run.{Call, readCall, Answer, byOutcome, bySetting, byRanges, replyTo, linesIn}
+use Rattle.buffer_state.specs.Run.{Call, readCall, batchCall, Answer, byOutcome, bySetting, byRanges, byBatch, replyTo, linesIn}
 use Rattle.buffer_state.specs.Settings.{offsetSet, windowStartSet, windowEndSet}
 use Rattle.call_rows.specs.Encoded.{offeredOf, linesCall, settingCall, rangesCallOf, ofLines, ofRanges, rowCall}
 use Rattle.call_rows.specs.Replies.{sizeOf, doublesIn, rangesIn}
-use Rattle.call_list.specs.Listed.{noted, readingsIn}
+use Rattle.call_list.specs.Listed.{firstFrame, frameCount, framesOfRow, offersOfRow, noted, readingsIn}
+use Rattle.call_list.proofs.ListedLaws.{framesIn}
 
 pub record Shape (kind places : ℕ) (r : Result Answer) : Type 0 where
   pub lines : ofLines kind (sizeOf r) ≡ length (linesIn r)
@@ -36,16 +39,22 @@ module _ (kind places : ℕ) (b : Buffer) where
 
   setting-shape : 2 ≤ kind → kind < 7 → (x : Result Buffer) → Shape kind places (bySetting b x .result)
   setting-shape h k (refused why) =
-      record { lines = rw (le-ltb kind 2 h); ranges = rw (lt-ltb kind 8 (omega arith)); few = omega arith; readings = rw (ne-eqb kind 7 (λ e. omega arith)) }
+      record { lines = rw (le-ltb kind 2 h, lt-ltb kind 10 (omega arith)); ranges = rw (lt-ltb kind 8 (omega arith)); few = omega arith; readings = rw (ne-eqb kind 7 (λ e. omega arith)) }
   setting-shape h k (done c) =
-      record { lines = rw (le-ltb kind 2 h); ranges = rw (lt-ltb kind 8 (omega arith)); few = omega arith; readings = rw (ne-eqb kind 7 (λ e. omega arith)) }
+      record { lines = rw (le-ltb kind 2 h, lt-ltb kind 10 (omega arith)); ranges = rw (lt-ltb kind 8 (omega arith)); few = omega arith; readings = rw (ne-eqb kind 7 (λ e. omega arith)) }
 
-  module _ (h : 8 ≤ kind) where
+  batch-shape : 10 ≤ kind → (x : Result Batch) → Shape kind places (byBatch b x .result)
+  batch-shape h (refused why) =
+      record { lines = rw (le-ltb kind 2 (omega arith), le-ltb kind 10 h); ranges = rw (le-ltb kind 8 (omega arith), le-ltb kind 10 h); few = omega arith; readings = rw (ne-eqb kind 7 (λ e. omega arith)) }
+  batch-shape h (done r) =
+      record { lines = rw (le-ltb kind 2 (omega arith), le-ltb kind 10 h); ranges = rw (le-ltb kind 8 (omega arith), le-ltb kind 10 h); few = omega arith; readings = rw (ne-eqb kind 7 (λ e. omega arith)) }
+
+  module _ (h : 8 ≤ kind) (k : kind < 10) where
     ranges-shape : (x : Result (List Range)) → length (rangesIn (byRanges b x .result)) ≤ places → Shape kind places (byRanges b x .result)
     ranges-shape (refused why) f =
-        record { lines = rw (le-ltb kind 2 (omega arith)); ranges = rw (le-ltb kind 8 h); few = omega arith; readings = rw (ne-eqb kind 7 (λ e. omega arith)) }
+        record { lines = rw (le-ltb kind 2 (omega arith), lt-ltb kind 10 k); ranges = rw (le-ltb kind 8 h, lt-ltb kind 10 k); few = omega arith; readings = rw (ne-eqb kind 7 (λ e. omega arith)) }
     ranges-shape (done rs) f =
-        record { lines = rw (le-ltb kind 2 (omega arith)); ranges = rw (le-ltb kind 8 h); few = rw (le-ltb kind 8 h) f; readings = rw (ne-eqb kind 7 (λ e. omega arith)) }
+        record { lines = rw (le-ltb kind 2 (omega arith), lt-ltb kind 10 k); ranges = rw (le-ltb kind 8 h, lt-ltb kind 10 k); few = rw (le-ltb kind 8 h, lt-ltb kind 10 k) f; readings = rw (ne-eqb kind 7 (λ e. omega arith)) }
 
     abbrev Few : Result (List Range) → Type 0
     Few x = length (rangesIn (byRanges b x .result)) ≤ places
@@ -62,7 +71,7 @@ module _ (kind places : ℕ) (b : Buffer) where
         let n = length (commonRangesOf (length (b .tracks)) (b .frames)) in
         by-test Few (ltb places n) (λ _. omega arith) (λ e. ltb-false places n e)
 
-module _ (row : List ℕ) (stamps : List ℤ) (seconds : List Float) (b : Buffer) where
+module _ (row : List ℕ) (stamps : List ℤ) (seconds : List Float) (frames : List (List ℤ)) (b : Buffer) where
   abbrev kind : ℕ
   kind = getD row 0 0
 
@@ -92,13 +101,17 @@ module _ (row : List ℕ) (stamps : List ℤ) (seconds : List Float) (b : Buffer
   unfolding replyTo
   reading-shape e = rw e (record { lines = refl; ranges = refl; few = omega arith; readings = refl })
 
-  reports-shape : 8 ≤ kind → Shaped (rangesCallOf row places)
+  reports-shape : 8 ≤ kind → kind < 10 → Shaped (rangesCallOf row places)
   unfolding replyTo
-  reports-shape h =
-      by-test Shaped (eqb kind 8) (λ _. ranges-shape kind places b h (trackRanges places (getD row 1 0) b) (track-few kind places b h (getD row 1 0)))
-      (λ _. ranges-shape kind places b h (commonRanges places b) (common-few kind places b h))
+  reports-shape h k =
+      by-test Shaped (eqb kind 8) (λ _. ranges-shape kind places b h k (trackRanges places (getD row 1 0) b) (track-few kind places b h k (getD row 1 0)))
+      (λ _. ranges-shape kind places b h k (commonRanges places b) (common-few kind places b h k))
 
-  pub row-shape : Shaped (rowCall row stamps seconds)
+  batches-shape : 10 ≤ kind → Shaped (batchCall places (map offeredIn frames))
+  unfolding replyTo
+  batches-shape h = batch-shape kind places b h (batch places (map offeredIn frames) b)
+
+  pub row-shape : Shaped (rowCall row stamps seconds frames)
   row-shape =
       split (ltb kind 2) (λ e. rw e (lines-shape (ltb-true kind 2 e)))
       (λ e. split (ltb kind 7) (λ f. rw (e, f) (settings-shape (ltb-false kind 2 e) (ltb-true kind 7 f)))
@@ -106,4 +119,36 @@ module _ (row : List ℕ) (stamps : List ℤ) (seconds : List Float) (b : Buffer
       (λ g.
       let l : 7 ≤ kind = ltb-false kind 7 f in
       let n : kind ≡ 7 → ⊥ = eqb-false kind 7 g in
-      rw (e, f, g) (reports-shape (omega (arith, n))))))
+      split (ltb kind 10) (λ m. rw (e, f, g, m) (reports-shape (omega (arith, n)) (ltb-true kind 10 m)))
+      (λ m. rw (e, f, g, m) (batches-shape (ltb-false kind 10 m))))))
+
+-- ---- what a row's call offers
+
+take-most : {A : Type 0} (n : ℕ) (l : List A) → length (take n l) ≤ n
+take-most zero l = omega arith
+take-most (suc n) [] = omega arith
+take-most (suc n) (x ∷ l) = omega (arith, take-most n l)
+
+settings-offer : (kind flag : ℕ) (x : Float) → framesIn (settingCall kind flag x) ≡ 0
+settings-offer kind flag x =
+    let None : Call → Type 0 = λ c. framesIn c ≡ 0 in
+    by-test None (eqb kind 2) (λ _. refl)
+    (λ _. by-test None (eqb kind 3) (λ _. refl)
+    (λ _. by-test None (eqb kind 4) (λ _. refl)
+    (λ _. by-test None (eqb kind 5) (λ _. refl) (λ _. refl))))
+
+-- never more frames than the row says
+pub row-offers : (row : List ℕ) (stamps : List ℤ) (seconds : List Float) (frames : List (List ℤ))
+    → framesIn (rowCall row stamps seconds (framesOfRow row frames)) ≤ offersOfRow row
+row-offers row stamps seconds frames =
+    let kind = getD row 0 0 in
+    let Few : Call → Type 0 = λ c. framesIn c ≤ offersOfRow row in
+    by-test Few (ltb kind 2) (λ _. by-test Few (eqb kind 0) (λ e. rw e (omega arith)) (λ _. omega arith))
+    (λ _. by-test Few (ltb kind 7) (λ _. omega (arith, settings-offer kind (getD row 2 0) (getD seconds 0 nan)))
+    (λ _. by-test Few (eqb kind 7) (λ _. omega arith)
+    (λ _. by-test Few (ltb kind 10) (λ _. by-test Few (eqb kind 8) (λ _. omega arith) (λ _. omega arith))
+    (λ e.
+    let own = framesOfRow row frames in
+    let h : 10 ≤ kind = ltb-false kind 10 e in
+    let asked : offersOfRow row ≡ frameCount row = rw (ne-eqb kind 0 (λ z. omega arith)) in
+    omega (arith, asked, length-map own offeredIn, take-most (frameCount row) (drop (firstFrame row) frames))))))

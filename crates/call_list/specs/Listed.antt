@@ -2,40 +2,58 @@
 use mathlib.Core.Path.{_≡_}
 use mathlib.Core.Bool.{Bool, true, cond, _&&_}
 use mathlib.Core.List.{List, [], _∷_, _++_, map}
-use Prim.Native.Nat.{ℕ, zero, suc, _-_}
-use lib.Dec.{leb, eqb}
+use Prim.Native.Nat.{ℕ, zero, suc, _+_, _-_}
+use lib.Dec.{leb, ltb, eqb}
 use lib.IntN.{ℤ}
 use lib.Ieee.{Float}
-use lib.ListN.{length, drop, getD}
+use lib.ListN.{length, take, drop, getD}
 use Rattle.buffer_state.specs.Answers.{written, laid, zeroHead}
 use Rattle.buffer_state.specs.Buffer.{Buffer, fresh}
 use Rattle.buffer_state.specs.Lent.{Lent, lentOf, bufferIn}
 use Rattle.buffer_state.specs.Refusals.{Result, refused, done}
-use Rattle.buffer_state.specs.Run.{Call, Answer, ok, fates, settings, ranges, Entry, run, lastOf, handedOut, total}
+use Rattle.buffer_state.specs.Run.{Call, Answer, ok, fates, settings, ranges, accepted, Entry, run, lastOf, handedOut, acceptedIn, total}
 use Rattle.buffer_state.specs.Settings.{create}
-use Rattle.buffer_state.specs.WellFormed.{allOf, goodBuffer}
+use Rattle.buffer_state.specs.WellFormed.{goodBuffer}
 use Rattle.account.specs.History.{Account}
 use Rattle.call_list.specs.declared.Ending as End
 use Rattle.call_list.specs.declared.Ending.the-variants.{Done, Unfit, Refused}
 use Rattle.call_list.specs.declared.Ran.{Ran}
 use Rattle.call_rows.specs.Encoded.{ofLines, ofRanges, rowCall}
-use Rattle.call_rows.specs.Replies.{lent, numberOf, sizeOf, doublesIn, rangesIn}
+use Rattle.call_rows.specs.Replies.{lent, numberOf, sizeOf, stopIn, doublesIn, rangesIn}
 
 -- ---- the calls
 
--- the calls of the first so many rows
-unfoldable pub firstCalls : List (List ℕ) → List (List ℤ) → List (List Float) → ℕ → List Call
-firstCalls rows stamps seconds zero = []
-firstCalls rows stamps seconds (suc i) = firstCalls rows stamps seconds i ++ (rowCall (getD rows i []) (getD stamps i []) (getD seconds i []) ∷ [])
+-- of a number in a row, how much is about the frames of a batch
+abbrev pub ofBatch : ℕ → ℕ → ℕ
+ofBatch kind n = cond (ltb kind 10) 0 n
 
-abbrev pub encodedCalls : List (List ℕ) → List (List ℤ) → List (List Float) → List Call
-encodedCalls rows stamps seconds = firstCalls rows stamps seconds (length rows)
+-- A batch's row names its frames in the list of frames: the place of the first, where an append has its track, and how many, where an
+-- append has its duration.
+abbrev pub firstFrame : List ℕ → ℕ
+firstFrame row = ofBatch (getD row 0 0) (getD row 1 0)
+
+abbrev pub frameCount : List ℕ → ℕ
+frameCount row = ofBatch (getD row 0 0) (getD row 3 0)
+
+abbrev pub framesOfRow : List ℕ → List (List ℤ) → List (List ℤ)
+framesOfRow row frames = take (frameCount row) (drop (firstFrame row) frames)
+
+-- the calls of the first so many rows
+unfoldable pub firstCalls : List (List ℕ) → List (List ℤ) → List (List Float) → List (List ℤ) → ℕ → List Call
+firstCalls rows stamps seconds frames zero = []
+firstCalls rows stamps seconds frames (suc i) =
+    let row = getD rows i [] in
+    firstCalls rows stamps seconds frames i ++ (rowCall row (getD stamps i []) (getD seconds i []) (framesOfRow row frames) ∷ [])
+
+abbrev pub encodedCalls : List (List ℕ) → List (List ℤ) → List (List Float) → List (List ℤ) → List Call
+encodedCalls rows stamps seconds frames = firstCalls rows stamps seconds frames (length rows)
 
 -- ---- what the lists hold
 
--- a call's answer: its refusal number or 0, and how many lines, ranges or doubles
+-- a call's answer: its refusal number or 0; how many lines, ranges or doubles; of a batch, how many frames were accepted, and the number
+-- of the refusal that stopped it or 0
 abbrev pub answerOf : Entry → List ℕ
-answerOf e = numberOf (e .result) ∷ sizeOf (e .result) ∷ []
+answerOf e = numberOf (e .result) ∷ sizeOf (e .result) ∷ acceptedIn (e .result) ∷ stopIn (e .result) ∷ []
 
 -- the doubles of a reading: offset, window start, window end
 abbrev pub readingsIn : Result Answer → List (List Float)
@@ -44,6 +62,7 @@ readingsIn (done ok) = []
 readingsIn (done (fates ls)) = []
 readingsIn (done (settings r)) = doublesIn (done (settings r)) ∷ []
 readingsIn (done (ranges rs)) = []
+readingsIn (done (accepted n stop ls)) = []
 
 -- what all results have of one sort, in order
 unfoldable pub allOut : {A : Type 0} → (Result Answer → List A) → List Entry → List A
@@ -88,26 +107,37 @@ pub record Replayed (b : Buffer) (cs : List Call) (r : Ran) (before after : List
 
 -- ---- when there is a run
 
--- a kind from 0 to 9, and room for a call's lines beside a line for each call
-abbrev pub rowFits : ℕ → List ℕ → Bool
-rowFits room row = leb (getD row 0 0) 9 && leb (ofLines (getD row 0 0) (getD row 4 0)) room
+-- a kind from 0 to 10, room for the call's lines, and a batch's frames inside the list of frames
+abbrev pub rowFits : ℕ → ℕ → List ℕ → Bool
+rowFits frames room row =
+    leb (getD row 0 0) 10 && (leb (ofLines (getD row 0 0) (getD row 4 0)) room && leb (firstFrame row + frameCount row) frames)
+
+-- the frames that a row offers
+abbrev pub offersOfRow : List ℕ → ℕ
+offersOfRow row = cond (eqb (getD row 0 0) 0) 1 (frameCount row)
+
+-- Room for each call's lines beside a line for each frame offered before it: in the end a frame that was accepted is stored or on one
+-- line, so that the lines of all calls before are never more than the frames offered.
+unfoldable pub rowsFit : ℕ → ℕ → List (List ℕ) → Bool
+rowsFit frames room [] = true
+rowsFit frames room (row ∷ rows) = rowFits frames room row && rowsFit frames (room - offersOfRow row) rows
 
 abbrev pub rangesOfRow : List ℕ → ℕ
 rangesOfRow row = ofRanges (getD row 0 0) (getD row 4 0)
 
--- every list has a place for each call
-abbrev pub longEnough : ℕ → ℕ → ℕ → ℕ → ℕ → ℕ → Bool
-longEnough n stamps seconds answers lines readings = leb n stamps && (leb n seconds && (leb n answers && (leb n lines && leb n readings)))
+-- stamps, seconds, answers and readings have a place for each call
+abbrev pub longEnough : ℕ → ℕ → ℕ → ℕ → ℕ → Bool
+longEnough n stamps seconds answers readings = leb n stamps && (leb n seconds && (leb n answers && leb n readings))
 
 -- and the range list one for each that is asked for
-unfoldable pub fits : List (List ℕ) → ℕ → ℕ → ℕ → ℕ → ℕ → ℕ → Bool
-fits rows stamps seconds answers lines spans readings =
-    longEnough (length rows) stamps seconds answers lines readings
-    && (allOf (rowFits (lines - length rows)) rows && leb (total rangesOfRow rows) spans)
+unfoldable pub fits : List (List ℕ) → ℕ → ℕ → ℕ → ℕ → ℕ → ℕ → ℕ → Bool
+fits rows stamps seconds frames answers lines spans readings =
+    longEnough (length rows) stamps seconds answers readings && (rowsFit frames lines rows && leb (total rangesOfRow rows) spans)
 
 -- of lists given whole
-abbrev pub fitsIn : List (List ℕ) → List (List ℤ) → List (List Float) → Lists → Bool
-fitsIn rows stamps seconds l = fits rows (length stamps) (length seconds) (length (l .answers)) (length (l .lines)) (length (l .ranges)) (length (l .readings))
+abbrev pub fitsIn : List (List ℕ) → List (List ℤ) → List (List Float) → List (List ℤ) → Lists → Bool
+fitsIn rows stamps seconds frames l =
+    fits rows (length stamps) (length seconds) (length frames) (length (l .answers)) (length (l .lines)) (length (l .ranges)) (length (l .readings))
 
 abbrev pub endingOf : Result Buffer → End.Ending
 endingOf (refused why) = Refused why

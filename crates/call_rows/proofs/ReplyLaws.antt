@@ -1,7 +1,7 @@
 -- What the contracts of the calls say of any head and arrays, in the run's words and as numbers.
 use mathlib.Core.Path.{_≡_, refl, sym, ap, _∙_}
 use mathlib.Core.Bool.{Bool, true, false}
-use mathlib.Core.List.{List, [], _∷_}
+use mathlib.Core.List.{List, [], _∷_, map}
 use Prim.Native.Nat.{ℕ, _≤_, _<_}
 use native.Mathlib.Omega.{arith}
 use lib.IntN.{ℤ}
@@ -10,6 +10,7 @@ use lib.ListN.{length, getD}
 use borrow.Author.Tests.{lt-ltb, le-ltb, eq-eqb, ne-eqb}
 use Rattle.laws.proofs.BoolLaws.{by-test}
 use Rattle.seconds.specs.Seconds.{zeroSeconds}
+use Rattle.buffer_state.specs.declared.Batched.{Batched}
 use Rattle.buffer_state.specs.declared.Changed.{Changed}
 use Rattle.buffer_state.specs.declared.Count.{Count}
 use Rattle.buffer_state.specs.declared.Counted.{Counted}
@@ -19,22 +20,23 @@ use Rattle.buffer_state.specs.declared.Read.{Read}
 use Rattle.buffer_state.specs.declared.Refusal.the-variants.{IllFormed}
 use Rattle.buffer_state.specs.declared.WindowEnd.{WindowEnd}
 use Rattle.buffer_state.specs.declared.WindowEnd.the-variants.{Unbounded, At}
-use Rattle.buffer_state.specs.Answers.{changed, abortAnswer, modeAnswer, offsetAnswer, windowStartAnswer, windowEndAnswer, readWith, read, settingsAnswer, counted, timesAfter, tagsAfter, listAfter, appendResult, removeResult, rangeCount, rangesAfter, trackRangesResult, commonRangesResult}
+use Rattle.buffer_state.specs.Answers.{changed, abortAnswer, modeAnswer, offsetAnswer, windowStartAnswer, windowEndAnswer, readWith, read, settingsAnswer, counted, timesAfter, tagsAfter, listAfter, appendResult, removeResult, batched, outcomeOf, batchResult, rangeCount, rangesAfter, trackRangesResult, commonRangesResult}
 use Rattle.buffer_state.specs.Append.{Outcome, append}
+use Rattle.buffer_state.specs.Batch.{offeredIn, Batch, batch}
 use Rattle.buffer_state.specs.Buffer.{Buffer, withFrames}
 use Rattle.buffer_state.specs.Lent.{Lent, timesIn, tagsIn, lentOf, bufferIn, wellFormedAt, onLent}
 use Rattle.buffer_state.specs.Ranges.{Range, trackRanges, commonRanges}
 use Rattle.buffer_state.specs.Refusals.{Result, refused, done, refusalNumber}
 use Rattle.buffer_state.specs.Remove.{remove}
-use Rattle.buffer_state.specs.Run.{Call, appendCall, removeCall, abortCall, modeCall, offsetCall, windowStartCall, windowEndCall, readCall, rangesCall, commonCall, settings, ranges, byOutcome, bySetting, byRanges, replyTo}
+use Rattle.buffer_state.specs.Run.{Call, appendCall, removeCall, abortCall, modeCall, offsetCall, windowStartCall, windowEndCall, readCall, rangesCall, commonCall, batchCall, settings, ranges, byOutcome, bySetting, byRanges, byBatch, replyTo}
 use Rattle.buffer_state.specs.Settings.{aborted, modeSet, offsetSet, windowStartSet, windowEndSet, Reading, reading}
-use Rattle.buffer_laws.proofs.AnswerLaws.{Leaves}
+use Rattle.buffer_laws.proofs.AnswerLaws.{Leaves, LeavesBatch}
 use Rattle.buffer_laws.proofs.LentLaws.{lent-same, ill-formed-refused, on-well-formed}
 use Rattle.buffer_laws.proofs.SettingLaws.{IfDone, Set, aborted-good, aborted-untouched, mode-good, mode-untouched, offset-set, window-start-set, window-end-set}
 use Rattle.ranges.specs.Bars.{Reported}
 use Rattle.call_rows.specs.declared.Step.{Step}
 use Rattle.call_rows.specs.Encoded.{modeOf, offeredOf, linesCall, settingCall, rangesCallOf, callOf}
-use Rattle.call_rows.specs.Replies.{Replied, laidReply, replyOn, Stepped, Lined, Spanned, Quiet, plainStep, changeStep, countStep, readStep}
+use Rattle.call_rows.specs.Replies.{Replied, laidReply, replyOn, Stepped, Lined, Spanned, Quiet, stepWith, plainStep, changeStep, countStep, readStep, acceptedStep}
 
 -- the test, and a call, on a state between calls
 abbrev formed : Lent → Bool
@@ -84,6 +86,30 @@ module _ (s : Lent) (lent : List (List ℕ)) where
   pub remove-reply : (n : ℕ) (start end : Float) → LinedBy (removeResult n start end (s .head) (s .times) (s .tags)) (replyOn (removeCall n start end) s)
   unfolding removeResult replyTo
   remove-reply n start end = lined-reply (removeCall n start end) (remove n start end) (λ b. refl)
+
+-- ---- a batch
+
+module _ (s : Lent) (lent : List (List ℕ)) where
+  abbrev JoinedBy : Result Batch → Replied → Type 0
+  JoinedBy x r =
+      Lined r (acceptedStep (batched (s .head) x .answer) (batched (s .head) x .head)) (timesAfter (outcomeOf x) (s .times)) (tagsAfter (outcomeOf x) (s .tags))
+      lent (listAfter (outcomeOf x) lent)
+
+  joined-of : formed s ≡ true → (x : Result Batch) → JoinedBy x (laidReply (byBatch (bufferIn s) x))
+  joined-of w (refused why) rs = record { step = ap (plainStep (refusalNumber why) 0) (left-head s w); times = left-times s w; tags = left-tags s w; fates = refl; ranges = refl }
+  joined-of w (done r) rs = record { step = refl; times = refl; tags = refl; fates = refl; ranges = refl }
+
+  batch-reply : (n : ℕ) (fs : List Offered) → JoinedBy (batchResult n fs (s .head) (s .times) (s .tags)) (replyOn (batchCall n fs) s)
+  unfolding batchResult replyTo
+  batch-reply n fs =
+      on-reply (JoinedBy (on (batch n fs) s)) (batchCall n fs) s
+      (λ w. rw (on-well-formed (batch n fs) (s .head) (s .times) (s .tags) w) (joined-of w (batch n fs (bufferIn s))))
+      (λ w. rw (ill-formed-refused (batch n fs) (s .head) (s .times) (s .tags) w) (λ rs. record { step = refl; times = refl; tags = refl; fates = refl; ranges = refl }))
+
+  pub batch-joined : (rows : List (List ℤ)) (r : Batched) (ts : List (List ℤ)) (gs after : List (List ℕ)) (t : Step) → t ≡ acceptedStep (r .answer) (r .head)
+      → LeavesBatch (s .head) (s .times) (s .tags) lent (batchResult (length lent) (map offeredIn rows) (s .head) (s .times) (s .tags)) r ts gs after
+      → Lined (replyOn (batchCall (length lent) (map offeredIn rows)) s) t ts gs lent after
+  batch-joined rows r ts gs after t told h = rw (told, h .0, h .1 .0, h .1 .1 .0, h .1 .1 .1) (batch-reply (length lent) (map offeredIn rows))
 
 -- ---- the reports
 
@@ -138,9 +164,9 @@ module _ (s : Lent) where
   read-of : formed s ≡ true → (offset start : Float) (e : WindowEnd)
       → Quiet (laidReply (record { result = done (settings (record { offset = offset; start = start; end = e })); after = bufferIn s })) (readStep (readWith offset start e) (s .head)) (s .times) (s .tags)
   read-of w offset start Unbounded ls rs =
-      record { step = λ i. record { refusal = 0; count = 2; doubles = offset ∷ start ∷ zeroSeconds ∷ []; head = left-head s w i }; times = left-times s w; tags = left-tags s w; fates = refl; ranges = refl }
+      record { step = ap (stepWith 0 2 (offset ∷ start ∷ zeroSeconds ∷ [])) (left-head s w); times = left-times s w; tags = left-tags s w; fates = refl; ranges = refl }
   read-of w offset start (At x) ls rs =
-      record { step = λ i. record { refusal = 0; count = 3; doubles = offset ∷ start ∷ x ∷ []; head = left-head s w i }; times = left-times s w; tags = left-tags s w; fates = refl; ranges = refl }
+      record { step = ap (stepWith 0 3 (offset ∷ start ∷ x ∷ [])) (left-head s w); times = left-times s w; tags = left-tags s w; fates = refl; ranges = refl }
 
   pub read-reply : Quiet (replyOn readCall s) (readStep (settingsAnswer (s .head) (s .times) (s .tags)) (s .head)) (s .times) (s .tags)
   unfolding settingsAnswer replyTo
@@ -212,23 +238,31 @@ module _ (s : Lent) (flag : ℕ) (x : Float) (r : Changed) where
 
 -- ---- any call
 
-module _ (s : Lent) (row : List ℕ) (stamps : List ℤ) (seconds : List Float) (lines₀ lines : List (List ℕ)) (spans₀ spans : List (List ℤ)) where
+module _ (s : Lent) (row : List ℕ) (stamps : List ℤ) (seconds : List Float) (frames : List (List ℤ)) (lines₀ lines : List (List ℕ)) (spans₀ spans : List (List ℤ)) where
+  abbrev kind : ℕ
+  kind = getD row 0 0
+
   abbrev Makes : Step → List (List ℤ) → List (List ℕ) → List (List ℕ) → List (List ℤ) → Type 0
-  Makes t ts gs ls rs = Stepped (replyOn (callOf row stamps seconds (length lines₀) (length spans₀)) s) t ts gs lines₀ ls spans₀ rs
+  Makes t ts gs ls rs = Stepped (replyOn (callOf row stamps seconds frames (length lines₀) (length spans₀)) s) t ts gs lines₀ ls spans₀ rs
 
-  pub made-lines : (t : Step) (ts : List (List ℤ)) (gs : List (List ℕ)) → getD row 0 0 < 2
+  pub made-lines : (t : Step) (ts : List (List ℤ)) (gs : List (List ℕ)) → kind < 2
       → Lined (replyOn (linesCall row stamps seconds (length lines₀)) s) t ts gs lines₀ lines → Makes t ts gs lines spans₀
-  made-lines t ts gs k h = rw (lt-ltb (getD row 0 0) 2 k) (h spans₀)
+  made-lines t ts gs k h = rw (lt-ltb kind 2 k) (h spans₀)
 
-  pub made-change : (r : Changed) (t : Step) → 2 ≤ getD row 0 0 → getD row 0 0 < 7 → t ≡ changeStep (r .answer) (r .head)
-      → Quiet (replyOn (settingCall (getD row 0 0) (getD row 2 0) (getD seconds 0 nan)) s) (changeStep (r .answer) (r .head)) (s .times) (s .tags)
+  pub made-change : (r : Changed) (t : Step) → 2 ≤ kind → kind < 7 → t ≡ changeStep (r .answer) (r .head)
+      → Quiet (replyOn (settingCall kind (getD row 2 0) (getD seconds 0 nan)) s) (changeStep (r .answer) (r .head)) (s .times) (s .tags)
       → Makes t (s .times) (s .tags) lines₀ spans₀
-  made-change r t k l e h = rw (le-ltb (getD row 0 0) 2 k, lt-ltb (getD row 0 0) 7 l, e) (h lines₀ spans₀)
+  made-change r t k l e h = rw (le-ltb kind 2 k, lt-ltb kind 7 l, e) (h lines₀ spans₀)
 
-  pub made-reading : (r : Read) (t : Step) → getD row 0 0 ≡ 7 → r ≡ settingsAnswer (s .head) (s .times) (s .tags) → t ≡ readStep r (s .head)
+  pub made-reading : (r : Read) (t : Step) → kind ≡ 7 → r ≡ settingsAnswer (s .head) (s .times) (s .tags) → t ≡ readStep r (s .head)
       → Makes t (s .times) (s .tags) lines₀ spans₀
   made-reading r t k e f = rw (k, f, e) (read-reply s lines₀ spans₀)
 
-  pub made-ranges : (t : Step) → 7 ≤ getD row 0 0 → (getD row 0 0 ≡ 7 → ⊥)
-      → Spanned (replyOn (rangesCallOf row (length spans₀)) s) t (s .times) (s .tags) spans₀ spans → Makes t (s .times) (s .tags) lines₀ spans
-  made-ranges t k l h = rw (le-ltb (getD row 0 0) 2 (omega arith), le-ltb (getD row 0 0) 7 k, ne-eqb (getD row 0 0) 7 l) (h lines₀)
+  module _ (k : 7 ≤ kind) (l : kind ≡ 7 → ⊥) where
+    pub made-ranges : (t : Step) → kind < 10
+        → Spanned (replyOn (rangesCallOf row (length spans₀)) s) t (s .times) (s .tags) spans₀ spans → Makes t (s .times) (s .tags) lines₀ spans
+    made-ranges t m h = rw (le-ltb kind 2 (omega arith), le-ltb kind 7 k, ne-eqb kind 7 l, lt-ltb kind 10 m) (h lines₀)
+
+    pub made-batch : (t : Step) (ts : List (List ℤ)) (gs : List (List ℕ)) → 10 ≤ kind
+        → Lined (replyOn (batchCall (length lines₀) (map offeredIn frames)) s) t ts gs lines₀ lines → Makes t ts gs lines spans₀
+    made-batch t ts gs m h = rw (le-ltb kind 2 (omega arith), le-ltb kind 7 k, ne-eqb kind 7 l, le-ltb kind 10 m) (h spans₀)

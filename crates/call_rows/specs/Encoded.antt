@@ -1,7 +1,7 @@
 -- A call as numbers. A row of a list of calls: kind, track, flag, duration, places lent; beside it, presentation and decode timestamp,
--- and two doubles.
+-- two doubles, and the frames of a batch.
 use mathlib.Core.Bool.{Bool, not, cond}
-use mathlib.Core.List.{List}
+use mathlib.Core.List.{List, map}
 use Prim.Native.Nat.{ℕ}
 use lib.Dec.{ltb, eqb}
 use lib.IntN.{ℤ, pos}
@@ -10,7 +10,8 @@ use lib.ListN.{getD}
 use Rattle.buffer_state.specs.declared.Mode.{Mode}
 use Rattle.buffer_state.specs.declared.Mode.the-variants.{Segments, Sequence}
 use Rattle.buffer_state.specs.declared.Offered.{Offered}
-use Rattle.buffer_state.specs.Run.{Call, appendCall, removeCall, abortCall, modeCall, offsetCall, windowStartCall, windowEndCall, readCall, rangesCall, commonCall}
+use Rattle.buffer_state.specs.Batch.{offeredIn}
+use Rattle.buffer_state.specs.Run.{Call, appendCall, removeCall, abortCall, modeCall, offsetCall, windowStartCall, windowEndCall, readCall, rangesCall, commonCall, batchCall}
 
 abbrev pub flagOf : ℕ → Bool
 flagOf n = not (eqb n 0)
@@ -41,28 +42,30 @@ settingCall kind flag x =
     (cond (eqb kind 5) (windowStartCall x)
     (windowEndCall x))))
 
--- 8 a track's ranges, 9 the common ranges: calls that are lent a range list. A kind above 9 is taken for 9 by a single call; a list that
--- has one is not run (Listed.antt).
+-- 8 a track's ranges, 9 the common ranges: calls that are lent a range list
 abbrev pub rangesCallOf : List ℕ → ℕ → Call
 rangesCallOf row lent = cond (eqb (getD row 0 0) 8) (rangesCall lent (getD row 1 0)) (commonCall lent)
 
--- 7 reading the settings
-abbrev pub callOf : List ℕ → List ℤ → List Float → ℕ → ℕ → Call
-callOf row times seconds lines ranges =
+-- 7 reading the settings; 10 a batch, which is lent a fate list. A kind above 10 is taken for 10 by a single call; a list that has one is
+-- not run (Listed.antt).
+abbrev pub callOf : List ℕ → List ℤ → List Float → List (List ℤ) → ℕ → ℕ → Call
+callOf row times seconds frames lines ranges =
     let kind = getD row 0 0 in
     cond (ltb kind 2) (linesCall row times seconds lines)
     (cond (ltb kind 7) (settingCall kind (getD row 2 0) (getD seconds 0 nan))
-    (cond (eqb kind 7) readCall (rangesCallOf row ranges)))
+    (cond (eqb kind 7) readCall
+    (cond (ltb kind 10) (rangesCallOf row ranges)
+    (batchCall lines (map offeredIn frames)))))
 
 -- ---- places lent
 
 -- of a number that a call of this kind asks for or gives, how much is fate lines and how much is ranges
 abbrev pub ofLines : ℕ → ℕ → ℕ
-ofLines kind n = cond (ltb kind 2) n 0
+ofLines kind n = cond (ltb kind 2) n (cond (ltb kind 10) 0 n)
 
 abbrev pub ofRanges : ℕ → ℕ → ℕ
-ofRanges kind n = cond (ltb kind 8) 0 n
+ofRanges kind n = cond (ltb kind 8) 0 (cond (ltb kind 10) n 0)
 
 -- the call of a row, lent as many places as the row says
-abbrev pub rowCall : List ℕ → List ℤ → List Float → Call
-rowCall row times seconds = callOf row times seconds (getD row 4 0) (getD row 4 0)
+abbrev pub rowCall : List ℕ → List ℤ → List Float → List (List ℤ) → Call
+rowCall row times seconds frames = callOf row times seconds frames (getD row 4 0) (getD row 4 0)

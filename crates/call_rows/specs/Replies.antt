@@ -7,6 +7,8 @@ use lib.Ieee.{Float}
 use lib.IntN.{ℤ}
 use lib.ListN.{length, take, drop}
 use Rattle.seconds.specs.Seconds.{zeroSeconds}
+use Rattle.buffer_state.specs.declared.Accepted.{Accepted}
+use Rattle.buffer_state.specs.declared.Accepted.the-variants as Accepted
 use Rattle.buffer_state.specs.declared.Answer as Code
 use Rattle.buffer_state.specs.declared.Answer.the-variants as Said
 use Rattle.buffer_state.specs.declared.Count.{Count}
@@ -15,13 +17,15 @@ use Rattle.buffer_state.specs.declared.Head.{Head}
 use Rattle.buffer_state.specs.declared.Read.{Read}
 use Rattle.buffer_state.specs.declared.Read.the-variants as Read
 use Rattle.buffer_state.specs.declared.Refusal.the-variants.{IllFormed}
+use Rattle.buffer_state.specs.declared.Stop.{Stop}
+use Rattle.buffer_state.specs.declared.Stop.the-variants.{Nothing, By}
 use Rattle.buffer_state.specs.declared.WindowEnd.{WindowEnd}
 use Rattle.buffer_state.specs.declared.WindowEnd.the-variants.{Unbounded, At}
 use Rattle.buffer_state.specs.Answers.{written, laid}
 use Rattle.buffer_state.specs.Lent.{Lent, lentOf, bufferIn, wellFormedAt}
 use Rattle.buffer_state.specs.Ranges.{Range}
 use Rattle.buffer_state.specs.Refusals.{Result, refused, done, refusalNumber}
-use Rattle.buffer_state.specs.Run.{Call, Answer, ok, fates, settings, ranges, Reply, replyTo, linesIn}
+use Rattle.buffer_state.specs.Run.{Call, Answer, ok, fates, settings, ranges, accepted, Reply, replyTo, linesIn, acceptedIn}
 use Rattle.call_rows.specs.declared.Step.{Step}
 
 abbrev pub lent : Head → List (List ℤ) → List (List ℕ) → Lent
@@ -63,6 +67,20 @@ sizeOf (done ok) = 0
 sizeOf (done (fates ls)) = length ls
 sizeOf (done (settings r)) = doublesWith (r .end)
 sizeOf (done (ranges rs)) = length rs
+sizeOf (done (accepted n stop ls)) = length ls
+
+-- what stopped a batch: the refusal's number, 0 where nothing did
+abbrev pub stopNumber : Stop → ℕ
+stopNumber Nothing = 0
+stopNumber (By why) = refusalNumber why
+
+abbrev pub stopIn : Result Answer → ℕ
+stopIn (refused why) = 0
+stopIn (done ok) = 0
+stopIn (done (fates ls)) = 0
+stopIn (done (settings r)) = 0
+stopIn (done (ranges rs)) = 0
+stopIn (done (accepted n stop ls)) = stopNumber stop
 
 abbrev pub noDoubles : List Float
 noDoubles = zeroSeconds ∷ zeroSeconds ∷ zeroSeconds ∷ []
@@ -74,9 +92,17 @@ doublesIn (done ok) = noDoubles
 doublesIn (done (fates ls)) = noDoubles
 doublesIn (done (settings r)) = r .offset ∷ r .start ∷ endOf (r .end) ∷ []
 doublesIn (done (ranges rs)) = noDoubles
+doublesIn (done (accepted n stop ls)) = noDoubles
 
 abbrev pub stepOf : Replied → Step
-stepOf r = record { refusal = numberOf (r .result); count = sizeOf (r .result); doubles = doublesIn (r .result); head = r .after .head }
+stepOf r = record {
+  refusal = numberOf (r .result);
+  count = sizeOf (r .result);
+  accepted = acceptedIn (r .result);
+  stop = stopIn (r .result);
+  doubles = doublesIn (r .result);
+  head = r .after .head;
+}
 
 -- ---- what is lent, after a call
 
@@ -86,6 +112,7 @@ rangesIn (done ok) = []
 rangesIn (done (fates ls)) = []
 rangesIn (done (settings r)) = []
 rangesIn (done (ranges rs)) = rs
+rangesIn (done (accepted n stop ls)) = []
 
 -- its lines, then what the list held before
 abbrev pub fatesAfter : Result Answer → List (List ℕ) → List (List ℕ)
@@ -126,10 +153,14 @@ pub record CalledAt (r : Replied) (t : Step) (ts : List (List ℤ)) (gs lines₀
   pub fates : lines ≡ writtenAt lines₀ at (written (linesIn (r .result)))
   pub ranges : spans ≡ writtenAt spans₀ placed (laid (rangesIn (r .result)))
 
--- ---- the same from the code'h answers
+-- ---- the same from the code's answers
+
+-- of a call that is no batch, its doubles given
+abbrev pub stepWith : ℕ → ℕ → List Float → Head → Step
+stepWith refusal count doubles h = record { refusal = refusal; count = count; accepted = 0; stop = 0; doubles = doubles; head = h }
 
 abbrev pub plainStep : ℕ → ℕ → Head → Step
-plainStep refusal count h = record { refusal = refusal; count = count; doubles = noDoubles; head = h }
+plainStep refusal count h = stepWith refusal count noDoubles h
 
 abbrev pub changeStep : Code.Answer → Head → Step
 changeStep Said.Done h = plainStep 0 0 h
@@ -140,6 +171,10 @@ countStep (Count.Done n) h = plainStep 0 n h
 countStep (Count.Refused why) h = plainStep (refusalNumber why) 0 h
 
 abbrev pub readStep : Read → Head → Step
-readStep (Read.Bounded offset start end) h = record { refusal = 0; count = 3; doubles = offset ∷ start ∷ end ∷ []; head = h }
-readStep (Read.Unbounded offset start) h = record { refusal = 0; count = 2; doubles = offset ∷ start ∷ zeroSeconds ∷ []; head = h }
+readStep (Read.Bounded offset start end) h = stepWith 0 3 (offset ∷ start ∷ end ∷ []) h
+readStep (Read.Unbounded offset start) h = stepWith 0 2 (offset ∷ start ∷ zeroSeconds ∷ []) h
 readStep (Read.Refused why) h = plainStep (refusalNumber why) 0 h
+
+abbrev pub acceptedStep : Accepted → Head → Step
+acceptedStep (Accepted.Done n lines stop) h = record { refusal = 0; count = lines; accepted = n; stop = stopNumber stop; doubles = noDoubles; head = h }
+acceptedStep (Accepted.Refused why) h = plainStep (refusalNumber why) 0 h

@@ -1,4 +1,5 @@
 // A call as rows of numbers, made on any head and arrays: what it is and what it is handed; what it answered.
+use buffer_state::Accepted;
 use buffer_state::Answer;
 use buffer_state::Changed;
 use buffer_state::Count;
@@ -7,13 +8,17 @@ use buffer_state::Mode;
 use buffer_state::Offered;
 use buffer_state::Read;
 use buffer_state::Refusal;
+use buffer_state::Stop;
 ghost use mathlib.Core.Path.{_≡_};
+ghost use mathlib.Core.List.{map};
 ghost use lib.ListN.{length};
+ghost use Rattle.buffer_state.specs.Batch.{offeredIn};
 ghost use Rattle.buffer_state.specs.Refusals.{refusalNumber};
+ghost use Rattle.buffer_state.specs.Run.{batchCall};
 ghost use Rattle.call_rows.specs.Encoded.{modeOf, offeredOf, linesCall, settingCall, rangesCallOf, callOf};
-ghost use Rattle.call_rows.specs.Replies.{lent, replyOn, Stepped, Lined, Spanned, Quiet, plainStep, changeStep, countStep, readStep};
+ghost use Rattle.call_rows.specs.Replies.{lent, replyOn, Stepped, Lined, Spanned, Quiet, stopNumber, stepWith, plainStep, changeStep, countStep, readStep, acceptedStep};
 
-// The kinds of call. Up to REMOVE they are lent a fate list, from ABORT to READ none, from TRACK_RANGES on a range list.
+// The kinds of call. Up to REMOVE they are lent a fate list, from ABORT to READ none, the two reports a range list, a batch a fate list.
 pub const APPEND: u32 = 0;
 
 pub const REMOVE: u32 = 1;
@@ -34,10 +39,15 @@ pub const TRACK_RANGES: u32 = 8;
 
 pub const COMMON_RANGES: u32 = 9;
 
-// What one call gave: its refusal number or 0; how many lines, ranges or doubles; the doubles of a reading; the head.
+pub const BATCH: u32 = 10;
+
+// What one call gave: its refusal number or 0; how many lines, ranges or doubles; of a batch, how many frames were accepted and the number
+// of the refusal that stopped it or 0; the doubles of a reading; the head.
 pub struct Step {
     pub refusal: usize,
     pub count: usize,
+    pub accepted: usize,
+    pub stop: usize,
     pub doubles: [f64; 3],
     pub head: Head,
 }
@@ -84,16 +94,25 @@ fn offered_of(row: [u32; 5], stamps: [i64; 2]) -> Offered
 
 // ---- what a call answered, as a step
 
+// Of a call that is no batch.
+fn step_with(refusal: usize, count: usize, doubles: [f64; 3], head: Head) -> Step
+    ensures { λ r. ⌜ r ≡ stepWith refusal count doubles head ⌝ }
+{
+    Step {
+        refusal,
+        count,
+        accepted: 0,
+        stop: 0,
+        doubles,
+        head,
+    }
+}
+
 fn plain_step(refusal: usize, count: usize, head: Head) -> Step
     ensures { λ r. ⌜ r ≡ plainStep refusal count head ⌝ }
 {
     let doubles = [0.0; 3];
-    Step {
-        refusal,
-        count,
-        doubles,
-        head,
-    }
+    step_with(refusal, count, doubles, head)
 }
 
 fn change_step(answer: Answer, h: Head) -> Step
@@ -118,19 +137,42 @@ fn read_step(answer: Read, h: Head) -> Step
     ensures { λ r. ⌜ r ≡ readStep answer h ⌝ }
 {
     match answer {
-        Read::Bounded { offset, start, end } => Step {
-            refusal: 0,
-            count: 3,
-            doubles: [offset, start, end],
-            head: h,
-        },
-        Read::Unbounded { offset, start } => Step {
-            refusal: 0,
-            count: 2,
-            doubles: [offset, start, 0.0],
-            head: h,
-        },
+        Read::Bounded { offset, start, end } => step_with(0, 3, [offset, start, end], h),
+        Read::Unbounded { offset, start } => step_with(0, 2, [offset, start, 0.0], h),
         Read::Refused(why) => plain_step(number_of(why), 0, h),
+    }
+}
+
+fn stop_number(stop: Stop) -> usize
+    ensures { λ r. ⌜ r ≡ stopNumber stop ⌝ }
+{
+    match stop {
+        Stop::Nothing => 0,
+        Stop::By(why) => number_of(why),
+    }
+}
+
+fn accepted_step(answer: Accepted, h: Head) -> Step
+    ensures { λ r. ⌜ r ≡ acceptedStep answer h ⌝ }
+{
+    match answer {
+        Accepted::Done {
+            frames,
+            lines,
+            stop,
+        } => {
+            let doubles = [0.0; 3];
+            let number = stop_number(stop);
+            Step {
+                refusal: 0,
+                count: lines,
+                accepted: frames,
+                stop: number,
+                doubles,
+                head: h,
+            }
+        }
+        Accepted::Refused(why) => plain_step(number_of(why), 0, h),
     }
 }
 
@@ -205,18 +247,35 @@ fn ranges_step(
     count_step(a, h)
 }
 
-// One call on any head and arrays: what it is, in numbers, and the lists lent to it. A kind above COMMON_RANGES is taken for that one.
+fn batch_step(
+    h: Head,
+    frames: &[[i64; 6]],
+    times: &mut [[i64; 2]; 1024],
+    tags: &mut [[u32; 4]; 1024],
+    fates: &mut [[u32; 2]],
+) -> Step
+    ensures { λ r. ⌜ Lined (replyOn (batchCall (length (now (fates .entry))) (map offeredIn (now (frames .entry)))) (lent h (now (times .entry)) (now (tags .entry)))) r (now (times .exit)) (now (tags .exit)) (now (fates .entry)) (now (fates .exit)) ⌝ }
+{
+    let a = batch::append_batch(h, frames, times, tags, fates);
+    let answer = a.answer;
+    let k = a.head;
+    accepted_step(answer, k)
+}
+
+// One call on any head and arrays: what it is, in numbers, and the lists lent to it. A kind above BATCH is taken for that one; `frames` are
+// those of a batch.
 pub fn make_call(
     h: Head,
     row: [u32; 5],
     stamps: [i64; 2],
     seconds: [f64; 2],
+    frames: &[[i64; 6]],
     times: &mut [[i64; 2]; 1024],
     tags: &mut [[u32; 4]; 1024],
     fates: &mut [[u32; 2]],
     list: &mut [[i64; 2]],
 ) -> Step
-    ensures { λ r. ⌜ Stepped (replyOn (callOf row stamps seconds (length (now (fates .entry))) (length (now (list .entry)))) (lent h (now (times .entry)) (now (tags .entry)))) r (now (times .exit)) (now (tags .exit)) (now (fates .entry)) (now (fates .exit)) (now (list .entry)) (now (list .exit)) ⌝ }
+    ensures { λ r. ⌜ Stepped (replyOn (callOf row stamps seconds (now (frames .entry)) (length (now (fates .entry))) (length (now (list .entry)))) (lent h (now (times .entry)) (now (tags .entry)))) r (now (times .exit)) (now (tags .exit)) (now (fates .entry)) (now (fates .exit)) (now (list .entry)) (now (list .exit)) ⌝ }
 {
     let kind = row[0];
     if kind < ABORT {
@@ -231,5 +290,8 @@ pub fn make_call(
     if kind == READ {
         return read_step(settings::read_settings(h, times, tags), h);
     }
-    ranges_step(h, row, times, tags, list)
+    if kind < BATCH {
+        return ranges_step(h, row, times, tags, list);
+    }
+    batch_step(h, frames, times, tags, fates)
 }

@@ -3,20 +3,23 @@ use mathlib.Core.Path.{_≡_, refl, ap, _∙_}
 use mathlib.Core.List.{List}
 use Prim.Native.Nat.{ℕ}
 use lib.IntN.{ℤ}
+use Rattle.buffer_state.specs.declared.Batched.{Batched}
 use Rattle.buffer_state.specs.declared.Changed.{Changed}
 use Rattle.buffer_state.specs.declared.Count.{Count}
 use Rattle.buffer_state.specs.declared.Counted.{Counted}
 use Rattle.buffer_state.specs.declared.Head.{Head}
-use Rattle.buffer_state.specs.Answers.{counted, timesAfter, tagsAfter, listAfter, rangeCount, rangesAfter}
+use Rattle.buffer_state.specs.Answers.{counted, timesAfter, tagsAfter, listAfter, batched, outcomeOf, rangeCount, rangesAfter}
 use Rattle.buffer_state.specs.Append.{Outcome}
+use Rattle.buffer_state.specs.Batch.{Batch}
 use Rattle.buffer_state.specs.Ranges.{Range}
 use Rattle.buffer_state.specs.Refusals.{Result, refused, done}
-use Rattle.buffer_laws.proofs.AnswerLaws.{Leaves}
+use Rattle.buffer_laws.proofs.AnswerLaws.{Leaves, LeavesBatch}
 use Rattle.ranges.specs.Bars.{Reported}
 use Rattle.galumper.specs.declared.Answered.{Answered}
 use Rattle.galumper.specs.declared.FlatAnswer.{FlatAnswer}
+use Rattle.galumper.specs.declared.FlatBatched.{FlatBatched}
 use Rattle.galumper.specs.declared.FlatHead.{FlatHead}
-use Rattle.galumper.specs.Calls.{handedBack, countedOut, outcomeOut, reportOut}
+use Rattle.galumper.specs.Calls.{handedBack, countedOut, outcomeOut, batchedOut, batchOut, reportOut}
 
 -- ---- abort and the setters
 
@@ -40,6 +43,24 @@ outcome c h ts gs ls x y r times tags after out e l k = (
   (
     l .1 .0 ∙ ap (λ (z : Result Outcome). timesAfter z ts) e,
     (l .1 .1 .0 ∙ ap (λ (z : Result Outcome). tagsAfter z gs) e, l .1 .1 .1 ∙ ap (λ (z : Result Outcome). listAfter z ls) e),
+  ),
+)
+
+-- ---- a batch
+
+batch-out : (c : FlatHead) (h : Head) (x : Result Batch) → batchedOut c (batched h x .answer) (batched h x .head) ≡ batchOut c x
+batch-out c h (refused why) = refl
+batch-out c h (done r) = refl
+
+pub batch-outcome : (c : FlatHead) (h : Head) (ts : List (List ℤ)) (gs ls : List (List ℕ)) (x y : Result Batch) (r : Batched)
+    (times : List (List ℤ)) (tags after : List (List ℕ)) (out : FlatBatched)
+    → x ≡ y → LeavesBatch h ts gs ls x r times tags after → out ≡ batchedOut c (r .answer) (r .head)
+    → (out ≡ batchOut c y) × ((times ≡ timesAfter (outcomeOf y) ts) × ((tags ≡ tagsAfter (outcomeOf y) gs) × (after ≡ listAfter (outcomeOf y) ls)))
+batch-outcome c h ts gs ls x y r times tags after out e l k = (
+  k ∙ ap (λ (t : Batched). batchedOut c (t .answer) (t .head)) (l .0) ∙ batch-out c h x ∙ ap (batchOut c) e,
+  (
+    l .1 .0 ∙ ap (λ (z : Result Batch). timesAfter (outcomeOf z) ts) e,
+    (l .1 .1 .0 ∙ ap (λ (z : Result Batch). tagsAfter (outcomeOf z) gs) e, l .1 .1 .1 ∙ ap (λ (z : Result Batch). listAfter (outcomeOf z) ls) e),
   ),
 )
 

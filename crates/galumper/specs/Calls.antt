@@ -1,11 +1,13 @@
 -- What each exported call answers, from the call's own definition: after a refusal the flat head that was handed in, else the new
 -- head laid flat; the refusal number, 0 where there is none, and the count beside it.
-use mathlib.Core.List.{List}
+use mathlib.Core.List.{List, map}
 use Prim.Native.Nat.{ℕ}
 use lib.IntN.{ℤ}
 use lib.Ieee.{Float}
 use lib.ListN.{length}
 use Rattle.seconds.specs.Seconds.{zeroSeconds}
+use Rattle.buffer_state.specs.declared.Accepted.{Accepted}
+use Rattle.buffer_state.specs.declared.Accepted.the-variants as Accepted
 use Rattle.buffer_state.specs.declared.Answer.{Answer}
 use Rattle.buffer_state.specs.declared.Answer.the-variants as Answer
 use Rattle.buffer_state.specs.declared.Changed.{Changed}
@@ -14,12 +16,17 @@ use Rattle.buffer_state.specs.declared.Count.the-variants as Count
 use Rattle.buffer_state.specs.declared.Head.{Head}
 use Rattle.buffer_state.specs.declared.Read.{Read}
 use Rattle.buffer_state.specs.declared.Read.the-variants as Read
-use Rattle.buffer_state.specs.Answers.{appendResult, removeResult}
+use Rattle.buffer_state.specs.declared.Stop.{Stop}
+use Rattle.buffer_state.specs.declared.Stop.the-variants.{Nothing, By}
+use Rattle.buffer_state.specs.Answers.{appendResult, removeResult, batchResult}
 use Rattle.buffer_state.specs.Append.{Outcome}
+use Rattle.buffer_state.specs.Batch as Rows
+use Rattle.buffer_state.specs.Batch.{Batch}
 use Rattle.buffer_state.specs.Lent.{headOf}
 use Rattle.buffer_state.specs.Refusals.{Result, refused, done, refusalNumber}
 use Rattle.galumper.specs.declared.Answered.{Answered}
 use Rattle.galumper.specs.declared.FlatAnswer.{FlatAnswer}
+use Rattle.galumper.specs.declared.FlatBatched.{FlatBatched}
 use Rattle.galumper.specs.declared.FlatHead.{FlatHead}
 use Rattle.galumper.specs.declared.FlatOffered.{FlatOffered}
 use Rattle.galumper.specs.declared.Reading.{Reading}
@@ -61,6 +68,30 @@ removeFlat lent start end c = removeResult lent start end (headIn c)
 abbrev pub outcomeOut : FlatHead → Result Outcome → Answered
 outcomeOut c (refused why) = refusedWith c (refusalNumber why)
 outcomeOut c (done o) = doneWith (headOf (o .after)) (length (o .lines))
+
+-- ---- a batch
+
+-- the refusal that stopped it, 0 where none did
+abbrev pub stopNumber : Stop → ℕ
+stopNumber Nothing = 0
+stopNumber (By why) = refusalNumber why
+
+abbrev pub wholeRefused : FlatHead → ℕ → FlatBatched
+wholeRefused c why = record { head = c; answer = record { refusal = why; stop = 0; accepted = 0; count = 0 } }
+
+abbrev pub acceptedWith : Head → ℕ → ℕ → Stop → FlatBatched
+acceptedWith h frames lines stop = record { head = headOut h; answer = record { refusal = 0; stop = stopNumber stop; accepted = frames; count = lines } }
+
+abbrev pub batchedOut : FlatHead → Accepted → Head → FlatBatched
+batchedOut c (Accepted.Done frames lines stop) h = acceptedWith h frames lines stop
+batchedOut c (Accepted.Refused why) h = wholeRefused c (refusalNumber why)
+
+abbrev pub batchFlat : ℕ → List (List ℤ) → FlatHead → List (List ℤ) → List (List ℕ) → Result Batch
+batchFlat lent rows c = batchResult lent (map Rows.offeredIn rows) (headIn c)
+
+abbrev pub batchOut : FlatHead → Result Batch → FlatBatched
+batchOut c (refused why) = wholeRefused c (refusalNumber why)
+batchOut c (done r) = acceptedWith (headOf (r .outcome .after)) (r .accepted) (length (r .outcome .lines)) (r .stop)
 
 -- ---- the reports and the settings
 

@@ -7,14 +7,15 @@ ghost use mathlib.Core.Path.{_≡_};
 ghost use mathlib.Core.Bool.{cond};
 ghost use mathlib.Core.List.{map};
 ghost use lib.ListN.{length};
-ghost use Rattle.buffer_state.specs.Answers.{timesCreated, tagsCreated, timesAfter, tagsAfter, listAfter, abortAnswer, modeAnswer, offsetAnswer, windowStartAnswer, windowEndAnswer, settingsAnswer, createAnswer, rangeCount, rangesAfter, trackRangesResult, commonRangesResult};
+ghost use Rattle.buffer_state.specs.Answers.{timesCreated, tagsCreated, timesAfter, tagsAfter, listAfter, outcomeOf, abortAnswer, modeAnswer, offsetAnswer, windowStartAnswer, windowEndAnswer, settingsAnswer, createAnswer, rangeCount, rangesAfter, trackRangesResult, commonRangesResult};
 ghost use Rattle.buffer_state.specs.Refusals.{refusalNumber};
 ghost use Rattle.buffer_state.specs.declared.Mode.the-variants.{Segments, Sequence};
 ghost use Rattle.buffer_state.specs.Settings.{create};
 ghost use Rattle.buffer_state.specs.WellFormed.{allOf};
 ghost use Rattle.segments.specs.Segments.{listSegment, rowCount, rowsAfter};
-ghost use Rattle.galumper.specs.Calls.{refusedWith, doneWith, changedOut, handedBack, createdOut, countedOut, outcomeOut, appendFlat, removeFlat, reportOut, readingOut};
+ghost use Rattle.galumper.specs.Calls.{refusedWith, doneWith, changedOut, handedBack, createdOut, countedOut, outcomeOut, appendFlat, removeFlat, stopNumber, wholeRefused, acceptedWith, batchedOut, batchFlat, batchOut, reportOut, readingOut};
 ghost use Rattle.galumper.specs.Flat.{abi, bufferSize, flagOut, modeIn, modeOut, endIn, boundedOut, endOut, trackIn, trackOut, groupIn, groupOut, settingIn, settingOut, settingsIn, settingsOut, durationIn, offeredIn, segmentTrackIn, plainTrack, plainEnd, plainSettings, plain, headIn, headOut};
+use buffer_state::Accepted;
 use buffer_state::Answer;
 use buffer_state::Count;
 use buffer_state::Group;
@@ -25,6 +26,7 @@ use buffer_state::Read;
 use buffer_state::Refusal;
 use buffer_state::Setting;
 use buffer_state::Settings;
+use buffer_state::Stop;
 use buffer_state::Track;
 use buffer_state::WindowEnd;
 use fragments::Defaults;
@@ -109,6 +111,22 @@ pub struct FlatAnswer {
 pub struct Answered {
     pub head: FlatHead,
     pub answer: FlatAnswer,
+}
+
+// What a batch answers: the refusal number of the whole call (0: done), that of the frame which stopped it (0: none), how many frames were
+// accepted, and how many fate lines it wrote.
+#[repr(C)]
+pub struct FlatBatch {
+    pub refusal: u32,
+    pub stop: u32,
+    pub accepted: usize,
+    pub count: usize,
+}
+
+#[repr(C)]
+pub struct FlatBatched {
+    pub head: FlatHead,
+    pub answer: FlatBatch,
 }
 
 // What reading the settings answers: the doubles as they were given.
@@ -478,6 +496,55 @@ fn counted_out(c: FlatHead, answer: Count, h: Head) -> Answered
     }
 }
 
+fn stop_number(stop: Stop) -> u32
+    ensures { λ r. ⌜ r ≡ stopNumber stop ⌝ }
+{
+    match stop {
+        Stop::Nothing => 0,
+        Stop::By(why) => buffer_state::refusal_number(why),
+    }
+}
+
+fn whole_refused(c: FlatHead, why: Refusal) -> FlatBatched
+    ensures { λ r. ⌜ r ≡ wholeRefused c (refusalNumber why) ⌝ }
+{
+    let refusal = buffer_state::refusal_number(why);
+    let answer = FlatBatch {
+        refusal,
+        stop: 0,
+        accepted: 0,
+        count: 0,
+    };
+    FlatBatched { head: c, answer }
+}
+
+fn accepted_with(h: Head, frames: usize, lines: usize, stop: Stop) -> FlatBatched
+    ensures { λ r. ⌜ r ≡ acceptedWith h frames lines stop ⌝ }
+{
+    let head = head_out(h);
+    let stopped = stop_number(stop);
+    let answer = FlatBatch {
+        refusal: 0,
+        stop: stopped,
+        accepted: frames,
+        count: lines,
+    };
+    FlatBatched { head, answer }
+}
+
+fn batched_out(c: FlatHead, answer: Accepted, h: Head) -> FlatBatched
+    ensures { λ r. ⌜ r ≡ batchedOut c answer h ⌝ }
+{
+    match answer {
+        Accepted::Done {
+            frames,
+            lines,
+            stop,
+        } => accepted_with(h, frames, lines, stop),
+        Accepted::Refused(why) => whole_refused(c, why),
+    }
+}
+
 fn report_out(answer: Count) -> FlatAnswer
     ensures { λ r. ⌜ r ≡ reportOut answer ⌝ }
 {
@@ -528,7 +595,7 @@ fn reading_out(answer: Read) -> Reading
 pub extern "C" fn galumper_abi() -> u32
     ensures { λ r. ⌜ r ≡ abi ⌝ }
 {
-    3
+    4
 }
 
 // The bytes of a buffer: a head and its arrays.
@@ -577,6 +644,27 @@ pub extern "C" fn galumper_lent_append(
     let answer = r.answer;
     let k = r.head;
     counted_out(c, answer, k)
+}
+
+// Append up to 64 frames, as rows of the numbers that reading a segment lists.
+#[no_mangle]
+pub extern "C" fn galumper_lent_append_batch(
+    c: FlatHead,
+    frames: &[[i64; 6]],
+    times: &mut [[i64; 2]; 1024],
+    tags: &mut [[u32; 4]; 1024],
+    fates: &mut [[u32; 2]],
+) -> FlatBatched
+    ensures answer { λ r. ⌜ r ≡ batchOut c (batchFlat (length (now (fates .entry))) (now (frames .entry)) c (now (times .entry)) (now (tags .entry))) ⌝ }
+    ensures times { λ r. ⌜ now (times .exit) ≡ timesAfter (outcomeOf (batchFlat (length (now (fates .entry))) (now (frames .entry)) c (now (times .entry)) (now (tags .entry)))) (now (times .entry)) ⌝ }
+    ensures tags { λ r. ⌜ now (tags .exit) ≡ tagsAfter (outcomeOf (batchFlat (length (now (fates .entry))) (now (frames .entry)) c (now (times .entry)) (now (tags .entry)))) (now (tags .entry)) ⌝ }
+    ensures lines { λ r. ⌜ now (fates .exit) ≡ listAfter (outcomeOf (batchFlat (length (now (fates .entry))) (now (frames .entry)) c (now (times .entry)) (now (tags .entry)))) (now (fates .entry)) ⌝ }
+{
+    let h = head_in(c);
+    let r = batch::append_batch(h, frames, times, tags, fates);
+    let answer = r.answer;
+    let k = r.head;
+    batched_out(c, answer, k)
 }
 
 // Remove a stretch of time.

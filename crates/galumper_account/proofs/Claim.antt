@@ -9,8 +9,11 @@ use denote.Ref.{RefT, now}
 use lib.IntN.{ℤ}
 use lib.Ieee.{Float}
 use lib.ListN.{length}
+use Rattle.buffer_state.specs.declared.Accepted.{Accepted}
+use Rattle.buffer_state.specs.declared.Accepted.the-variants as Accepted
 use Rattle.buffer_state.specs.declared.Answer as Code
 use Rattle.buffer_state.specs.declared.Answer.the-variants as Said
+use Rattle.buffer_state.specs.declared.Batched.{Batched}
 use Rattle.buffer_state.specs.declared.Changed.{Changed}
 use Rattle.buffer_state.specs.declared.Count.{Count}
 use Rattle.buffer_state.specs.declared.Count.the-variants as Count
@@ -18,27 +21,29 @@ use Rattle.buffer_state.specs.declared.Counted.{Counted}
 use Rattle.buffer_state.specs.declared.Mode.the-variants.{Segments, Sequence}
 use Rattle.buffer_state.specs.declared.Read.{Read}
 use Rattle.buffer_state.specs.declared.Read.the-variants as Read
-use Rattle.buffer_state.specs.Answers.{changed, zeroHead, createAnswer, timesCreated, tagsCreated, timesAfter, tagsAfter, listAfter, abortAnswer, modeAnswer, offsetAnswer, windowStartAnswer, windowEndAnswer, settingsAnswer, rangeCount, rangesAfter, trackRangesResult, commonRangesResult}
+use Rattle.buffer_state.specs.Answers.{changed, zeroHead, createAnswer, timesCreated, tagsCreated, timesAfter, tagsAfter, listAfter, outcomeOf, abortAnswer, modeAnswer, offsetAnswer, windowStartAnswer, windowEndAnswer, settingsAnswer, rangeCount, rangesAfter, trackRangesResult, commonRangesResult}
 use Rattle.buffer_state.specs.Buffer.{Buffer, fresh}
 use Rattle.buffer_state.specs.Lent.{Lent}
 use Rattle.buffer_state.specs.Refusals.{Result, done}
 use Rattle.buffer_state.specs.Run.{Answer, Entry}
 use Rattle.buffer_state.specs.Settings.{create}
-use Rattle.account.specs.Made.{Listed, linesOf, rangesOf, changeOf, readingOf, resultOf, calls, entries}
+use Rattle.account.specs.Made.{Listed, Joined, linesOf, joinedOf, rangesOf, changeOf, readingOf, resultOf, entries}
 use Rattle.account.specs.History as Account
-use Rattle.account.proofs.Claim.{every-history, lend, two, three}
+use Rattle.account.proofs.Claim.{every-history, lend, two, three, four}
 use Rattle.galumper.specs.declared.Answered.{Answered}
 use Rattle.galumper.specs.declared.FlatAnswer.{FlatAnswer}
+use Rattle.galumper.specs.declared.FlatBatched.{FlatBatched}
 use Rattle.galumper.specs.declared.FlatHead.{FlatHead}
 use Rattle.galumper.specs.declared.FlatOffered.{FlatOffered}
-use Rattle.galumper.specs.Calls.{outcomeOut, handedBack, createdOut, appendFlat, removeFlat, reportOut, readingOut}
+use Rattle.galumper.specs.Calls.{outcomeOut, handedBack, createdOut, appendFlat, removeFlat, batchFlat, batchOut, reportOut, readingOut}
 use Rattle.galumper.specs.Flat.{headIn, headOut, offeredIn}
-use Rattle.galumper_account.specs.Told.{Ask, append, remove, abort, setSegments, setSequence, setOffset, setWindowStart, setWindowEnd, readSettings, trackRanges, commonRanges, Got, Told, numberIn, countOf, answerOf, readOf, given, back, made}
-use Rattle.galumper_account.specs.History.{Held, lentIn, From, none, by-append, by-remove, by-abort, by-segments, by-sequence, by-offset, by-window-start, by-window-end, by-reading, by-track-ranges, by-common-ranges, History, from, resultNumber, Claim, Happens}
-use Rattle.galumper_account.proofs.ReadLaws.{countNumber, answerNumber, readNumber, Reports, report-read, Reads, reading-read, Sound, Counts, Changes}
-use Rattle.galumper_account.proofs.StepLaws.{creation, appending, removing, aborting, mode-setting, offset-setting, window-start-setting, window-end-setting}
+use Rattle.galumper_account.specs.Told.{Ask, append, remove, abort, setSegments, setSequence, setOffset, setWindowStart, setWindowEnd, readSettings, trackRanges, commonRanges, batch, Got, Told, numbersIn, countOf, acceptedOf, answerOf, readOf, given, back, made}
+use Rattle.galumper_account.specs.History.{Held, lentIn, From, none, by-append, by-remove, by-abort, by-segments, by-sequence, by-offset, by-window-start, by-window-end, by-reading, by-track-ranges, by-common-ranges, by-batch, History, from, resultNumbers, Claim, Happens}
+use Rattle.galumper_account.proofs.ReadLaws.{countNumber, acceptedNumbers, answerNumber, readNumber, Reports, report-read, Reads, reading-read, Sound, Counts, Accepts, Changes}
+use Rattle.galumper_account.proofs.StepLaws.{creation, batching, appending, removing, aborting, mode-setting, offset-setting, window-start-setting, window-end-setting}
 use Rattle.galumper.proofs.galumper_lent_create.Reads as Create
 use Rattle.galumper.proofs.galumper_lent_append.Reads as Append
+use Rattle.galumper.proofs.galumper_lent_append_batch.Reads as Batch
 use Rattle.galumper.proofs.galumper_lent_remove.Reads as Remove
 use Rattle.galumper.proofs.galumper_lent_abort.Reads as Abort
 use Rattle.galumper.proofs.galumper_lent_set_segments.Reads as SetSegments
@@ -51,6 +56,7 @@ use Rattle.galumper.proofs.galumper_lent_track_ranges.Reads as TrackRanges
 use Rattle.galumper.proofs.galumper_lent_common_ranges.Reads as CommonRanges
 use Rattle.galumper.proofs.galumper_lent_create.Statement as CreateSays
 use Rattle.galumper.proofs.galumper_lent_append.Statement as AppendSays
+use Rattle.galumper.proofs.galumper_lent_append_batch.Statement as BatchSays
 use Rattle.galumper.proofs.galumper_lent_remove.Statement as RemoveSays
 use Rattle.galumper.proofs.galumper_lent_abort.Statement as AbortSays
 use Rattle.galumper.proofs.galumper_lent_set_segments.Statement as SetSegmentsSays
@@ -63,6 +69,7 @@ use Rattle.galumper.proofs.galumper_lent_track_ranges.Statement as TrackRangesS
 use Rattle.galumper.proofs.galumper_lent_common_ranges.Statement as CommonRangesSays
 use Rattle.galumper.proofs.galumper_lent_create.Met as CreateMet
 use Rattle.galumper.proofs.galumper_lent_append.Met as AppendMet
+use Rattle.galumper.proofs.galumper_lent_append_batch.Met as BatchMet
 use Rattle.galumper.proofs.galumper_lent_remove.Met as RemoveMet
 use Rattle.galumper.proofs.galumper_lent_abort.Met as AbortMet
 use Rattle.galumper.proofs.galumper_lent_set_segments.Met as SetSegmentsMet
@@ -74,32 +81,40 @@ use Rattle.galumper.proofs.galumper_lent_read_settings.Met as ReadSettingsMet
 use Rattle.galumper.proofs.galumper_lent_track_ranges.Met as TrackRangesMet
 use Rattle.galumper.proofs.galumper_lent_common_ranges.Met as CommonRangesMet
 
--- ---- the number of an answer is that of its result
+-- ---- the numbers of an answer are those of its result
 
-lines-number : (l : Listed (List ℕ)) (n : Count) → resultNumber (linesOf l n) ≡ countNumber n
+-- those of a call that is no batch
+abbrev plain : ℕ → List ℕ
+plain n = n ∷ 0 ∷ []
+
+lines-number : (l : Listed (List ℕ)) (n : Count) → resultNumbers (linesOf l n) ≡ plain (countNumber n)
 lines-number l (Count.Done n) = refl
 lines-number l (Count.Refused why) = refl
 
-ranges-number : (l : Listed (List ℤ)) (n : Count) → resultNumber (rangesOf l n) ≡ countNumber n
+joined-numbers : (l : Joined) (a : Accepted) → resultNumbers (joinedOf l a) ≡ acceptedNumbers a
+joined-numbers l (Accepted.Done n lines stop) = refl
+joined-numbers l (Accepted.Refused why) = refl
+
+ranges-number : (l : Listed (List ℤ)) (n : Count) → resultNumbers (rangesOf l n) ≡ plain (countNumber n)
 ranges-number l (Count.Done n) = refl
 ranges-number l (Count.Refused why) = refl
 
-change-number : (a : Code.Answer) → resultNumber (changeOf a) ≡ answerNumber a
+change-number : (a : Code.Answer) → resultNumbers (changeOf a) ≡ plain (answerNumber a)
 change-number Said.Done = refl
 change-number (Said.Refused why) = refl
 
-read-number : (r : Read) → resultNumber (readingOf r) ≡ readNumber r
+read-number : (r : Read) → resultNumbers (readingOf r) ≡ plain (readNumber r)
 read-number (Read.Bounded offset start end) = refl
 read-number (Read.Unbounded offset start) = refl
 read-number (Read.Refused why) = refl
 
 -- ---- every history of exported calls is one of the library's
 
-abbrev numbersOf : List Told → List ℕ
-numbersOf = map (λ (m : Told). numberIn (m .ask) (m .got))
+abbrev numbersOf : List Told → List (List ℕ)
+numbersOf = map (λ (m : Told). numbersIn (m .ask) (m .got))
 
-abbrev resultsOf : List Told → List ℕ
-resultsOf ms = map (λ (e : Entry). resultNumber (e .result)) (entries (map made ms))
+abbrev resultsOf : List Told → List (List ℕ)
+resultsOf ms = map (λ (e : Entry). resultNumbers (e .result)) (entries (map made ms))
 
 record Follows (c : Held) (ms : List Told) (t : Held) : Type 0 where
   pub steps : Account.From (lentIn c) (map made ms) (lentIn t)
@@ -108,7 +123,7 @@ record Follows (c : Held) (ms : List Told) (t : Held) : Type 0 where
 
 -- one call before the others
 one : {c d t : Held} {a : Ask} {g : Got a} {ms : List Told}
-    → numberIn a g ≡ resultNumber (resultOf (given a) (back a g))
+    → numbersIn a g ≡ resultNumbers (resultOf (given a) (back a g))
     → (Account.From (lentIn d) (map made ms) (lentIn t) → Account.From (lentIn c) (made (record { ask = a; got = g }) ∷ map made ms) (lentIn t))
     → Follows d ms t → Follows c (record { ask = a; got = g } ∷ ms) t
 one number step rest = record {
@@ -117,15 +132,18 @@ one number step rest = record {
   laid = rest .laid;
 }
 
--- the number that a call answered, by what the library's call answers
-counting : {n : Counted} (r : Answered) (l : Listed (List ℕ)) → Counts n r → r .answer .refusal ≡ resultNumber (linesOf l (countOf (r .answer)))
-counting r l o = o .number ∙ sym (ap (λ (n : Counted). countNumber (n .answer)) (o .same)) ∙ sym (lines-number l (countOf (r .answer)))
+-- the numbers that a call answered, by what the library's call answers
+counting : {n : Counted} (r : Answered) (l : Listed (List ℕ)) → Counts n r → plain (r .answer .refusal) ≡ resultNumbers (linesOf l (countOf (r .answer)))
+counting r l o = ap plain (o .number ∙ sym (ap (λ (n : Counted). countNumber (n .answer)) (o .same))) ∙ sym (lines-number l (countOf (r .answer)))
 
-reporting : {n : Count} (r : FlatAnswer) (l : Listed (List ℤ)) → Reports n r → r .refusal ≡ resultNumber (rangesOf l (countOf r))
-reporting r l o = o .number ∙ sym (ap countNumber (o .same)) ∙ sym (ranges-number l (countOf r))
+accepting : {n : Batched} (r : FlatBatched) (l : Joined) → Accepts n r → r .answer .refusal ∷ r .answer .stop ∷ [] ≡ resultNumbers (joinedOf l (acceptedOf (r .answer)))
+accepting r l o = o .numbers ∙ sym (ap (λ (n : Batched). acceptedNumbers (n .answer)) (o .same)) ∙ sym (joined-numbers l (acceptedOf (r .answer)))
 
-changing : {n : Changed} (r : Answered) → Changes n r → r .answer .refusal ≡ resultNumber (changeOf (answerOf (r .answer)))
-changing r o = o .number ∙ sym (ap (λ (n : Changed). answerNumber (n .answer)) (o .same)) ∙ sym (change-number (answerOf (r .answer)))
+reporting : {n : Count} (r : FlatAnswer) (l : Listed (List ℤ)) → Reports n r → plain (r .refusal) ≡ resultNumbers (rangesOf l (countOf r))
+reporting r l o = ap plain (o .number ∙ sym (ap countNumber (o .same))) ∙ sym (ranges-number l (countOf r))
+
+changing : {n : Changed} (r : Answered) → Changes n r → plain (r .answer .refusal) ≡ resultNumbers (changeOf (answerOf (r .answer)))
+changing r o = ap plain (o .number ∙ sym (ap (λ (n : Changed). answerNumber (n .answer)) (o .same))) ∙ sym (change-number (answerOf (r .answer)))
 
 follows : {c t : Held} {ms : List Told} → Sound (c .head) → From c ms t → Follows c ms t
 follows s none = record { steps = Account.none; numbers = refl; laid = s .laid }
@@ -171,7 +189,7 @@ follows {c} s (by-window-end x f times tags r κs h k) =
     (follows (o .sound) k)
 follows {c} s (by-reading times tags r κs h k) =
     let o : Reads (settingsAnswer (headIn (c .head)) (c .times) (c .tags)) r = rw h (reading-read _) in
-    one (o .number ∙ sym (ap readNumber (o .same)) ∙ sym (read-number (readOf r)))
+    one (ap plain (o .number ∙ sym (ap readNumber (o .same))) ∙ sym (read-number (readOf r)))
     (λ rest. Account.by-reading times tags (readOf r) κs (o .same) rest)
     (follows s k)
 follows {c} s (by-track-ranges track times tags lent r after κs h k) =
@@ -186,6 +204,11 @@ follows {c} s (by-common-ranges times tags lent r after κs h k) =
     one (reporting r (record { answer = countOf r; after = after }) o)
     (λ rest. Account.by-common-ranges times tags lent (countOf r) after κs (record { answer = o .same; list = h .1 }) rest)
     (follows s k)
+follows {c} s (by-batch rows times tags lent r ts gs after κs h k) =
+    let o = batching (c .head) (c .times) (c .tags) s r (length (now lent)) (now rows) (h .0) in
+    one (accepting r (record { answer = acceptedOf (r .answer); after = after }) o)
+    (λ rest. Account.by-batch rows times tags lent (record { answer = acceptedOf (r .answer); head = headIn (r .head) }) ts gs after κs (o .same, h .1) rest)
+    (follows (o .sound) k)
 
 -- ---- THE THEOREM
 
@@ -197,7 +220,7 @@ every-exported-history {kinds} {ms} {t} (from lent times tags r ts gs κs h acce
     let claim = every-history (Account.from lent times tags (record { answer = answerOf (r .answer); head = headIn (r .head) }) ts gs κs (o .same, h .1) done (f .steps)) in
     record {
       claim = claim;
-      numbers = f .numbers ∙ ap (map (λ (e : Entry). resultNumber (e .result))) (claim .results);
+      numbers = f .numbers ∙ ap (map (λ (e : Entry). resultNumbers (e .result))) (claim .results);
       buffer = λ i. record {
         head = (sym (f .laid) ∙ ap (λ (s : Lent). headOut (s .head)) (claim .state)) i;
         times = claim .state i .times;
@@ -267,6 +290,12 @@ onward c (trackRanges track l ∷ asks) =
 onward c (commonRanges l ∷ asks) =
     let x = commonRangesResult (length l) (headIn (c .head)) (c .times) (c .tags) in
     first {d = c} (λ ms t k. by-common-ranges (lend (c .times)) (lend (c .tags)) (lend l) (reportOut (rangeCount x)) (rangesAfter x l) three (refl, refl) k) (onward c asks)
+onward c (batch rows l ∷ asks) =
+    let x = batchFlat (length l) rows (c .head) (c .times) (c .tags) in
+    let o = outcomeOf x in
+    let r = batchOut (c .head) x in
+    let d : Held = record { head = r .head; times = timesAfter o (c .times); tags = tagsAfter o (c .tags) } in
+    first {d = d} (λ ms t k. by-batch (lend rows) (lend (c .times)) (lend (c .tags)) (lend l) r (d .times) (d .tags) (listAfter o l) four (refl, (refl, (refl, refl))) k) (onward d asks)
 
 -- whatever the arrays held before the creation
 pub some-exported-history : (kinds : List ℕ) (ts : List (List ℤ)) (gs : List (List ℕ)) (asks : List Ask) → create kinds ≡ done (fresh kinds) → Happens kinds asks
@@ -285,19 +314,21 @@ some-exported-history kinds ts gs asks made =
 -- ---- it has no hidden door
 
 -- no exported call asks anything of its caller
-pub exported-free : (κs : Lfts 2) (λs : Lfts 3) (c : FlatHead) (f : FlatOffered) (x y : Float) (track : ℕ) (kinds : RefT (List ℕ))
-    (times : RefT (List (List ℤ))) (tags : RefT (List (List ℕ))) (fates : RefT (List (List ℕ))) (list : RefT (List (List ℤ)))
+pub exported-free : (κs : Lfts 2) (λs : Lfts 3) (μs : Lfts 4) (c : FlatHead) (f : FlatOffered) (x y : Float) (track : ℕ) (kinds : RefT (List ℕ))
+    (times : RefT (List (List ℤ))) (tags : RefT (List (List ℕ))) (fates : RefT (List (List ℕ))) (list rows : RefT (List (List ℤ)))
     → Create.Asked λs (kinds, (times, (tags, tt))) × Append.Asked λs (c, (f, (times, (tags, (fates, tt)))))
     × Remove.Asked λs (c, (x, (y, (times, (tags, (fates, tt)))))) × Abort.Asked κs (c, (times, (tags, tt)))
     × SetSegments.Asked κs (c, (times, (tags, tt))) × SetSequence.Asked κs (c, (times, (tags, tt)))
     × SetOffset.Asked κs (c, (times, (tags, (x, tt)))) × SetWindowStart.Asked κs (c, (times, (tags, (x, tt))))
     × SetWindowEnd.Asked κs (c, (times, (tags, (x, tt)))) × ReadSettings.Asked κs (c, (times, (tags, tt)))
     × TrackRanges.Asked λs (c, (times, (tags, (track, (list, tt))))) × CommonRanges.Asked λs (c, (times, (tags, (list, tt))))
-exported-free κs λs c f x y track kinds times tags fates list = (tt, tt, tt, tt, tt, tt, tt, tt, tt, tt, tt, tt)
+    × Batch.Asked μs (c, (rows, (times, (tags, (fates, tt)))))
+exported-free κs λs μs c f x y track kinds times tags fates list rows = (tt, tt, tt, tt, tt, tt, tt, tt, tt, tt, tt, tt, tt)
 
 -- the running code meets the contracts of which a history is made
 pub exported-code-meets : {M : Type 1}
     → CreateSays.statement M × AppendSays.statement M × RemoveSays.statement M × AbortSays.statement M
     × SetSegmentsSays.statement M × SetSequenceSays.statement M × SetOffsetSays.statement M × SetWindowStartSays.statement M
     × SetWindowEndSays.statement M × ReadSettingsSays.statement M × TrackRangesSays.statement M × CommonRangesSays.statement M
-exported-code-meets = (CreateMet.met, AppendMet.met, RemoveMet.met, AbortMet.met, SetSegmentsMet.met, SetSequenceMet.met, SetOffsetMet.met, SetWindowStartMet.met, SetWindowEndMet.met, ReadSettingsMet.met, TrackRangesMet.met, CommonRangesMet.met)
+    × BatchSays.statement M
+exported-code-meets = (CreateMet.met, AppendMet.met, RemoveMet.met, AbortMet.met, SetSegmentsMet.met, SetSequenceMet.met, SetOffsetMet.met, SetWindowStartMet.met, SetWindowEndMet.met, ReadSettingsMet.met, TrackRangesMet.met, CommonRangesMet.met, BatchMet.met)

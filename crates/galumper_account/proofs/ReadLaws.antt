@@ -2,15 +2,18 @@
 -- hands back is laid out from the library's, whose doubles are numbers.
 use mathlib.Core.Path.{_≡_, refl, sym, ap, subst}
 use mathlib.Core.Bool.{false, cond, not, _||_}
-use mathlib.Core.List.{List}
+use mathlib.Core.List.{List, [], _∷_}
 use Prim.Native.Nat.{ℕ}
 use lib.Dec.{ltb, eqb}
 use lib.IntN.{ℤ}
 use lib.ListN.{length}
 use Rattle.laws.proofs.BoolLaws.{by-test}
 use Rattle.seconds.proofs.NumberLaws.{Number, zero-number, quotient-number}
+use Rattle.buffer_state.specs.declared.Accepted.{Accepted}
+use Rattle.buffer_state.specs.declared.Accepted.the-variants as Accepted
 use Rattle.buffer_state.specs.declared.Answer.{Answer}
 use Rattle.buffer_state.specs.declared.Answer.the-variants as Answer
+use Rattle.buffer_state.specs.declared.Batched.{Batched}
 use Rattle.buffer_state.specs.declared.Changed.{Changed}
 use Rattle.buffer_state.specs.declared.Count.{Count}
 use Rattle.buffer_state.specs.declared.Count.the-variants as Count
@@ -19,9 +22,12 @@ use Rattle.buffer_state.specs.declared.Head.{Head}
 use Rattle.buffer_state.specs.declared.Read.{Read}
 use Rattle.buffer_state.specs.declared.Read.the-variants as Read
 use Rattle.buffer_state.specs.declared.Refusal.{Refusal}
-use Rattle.buffer_state.specs.declared.Refusal.the-variants.{IllFormed, ShortFates, NoTrack, FrameLimits, Seconds, Order, ResultLimits, Full, LastNumber, ShortList, Kinds, Malformed}
-use Rattle.buffer_state.specs.Answers.{changed, counted, zeroHead}
+use Rattle.buffer_state.specs.declared.Refusal.the-variants.{IllFormed, ShortFates, NoTrack, FrameLimits, Seconds, Order, ResultLimits, Full, LastNumber, ShortList, Kinds, Malformed, LentSize}
+use Rattle.buffer_state.specs.declared.Stop.{Stop}
+use Rattle.buffer_state.specs.declared.Stop.the-variants.{Nothing, By}
+use Rattle.buffer_state.specs.Answers.{changed, counted, zeroHead, batched, outcomeOf}
 use Rattle.buffer_state.specs.Append.{Outcome}
+use Rattle.buffer_state.specs.Batch.{Batch}
 use Rattle.buffer_state.specs.Buffer.{Buffer, fresh, freshSettings}
 use Rattle.buffer_state.specs.Lent.{headOf, wellFormedAt, onLent}
 use Rattle.buffer_state.specs.Limits.{mostTracks, knownKind}
@@ -31,12 +37,13 @@ use Rattle.buffer_state.specs.WellFormed.{allOf}
 use Rattle.buffer_laws.proofs.KeptLaws.{Keeps, Made, OutcomeKeeps, SettingKeeps}
 use Rattle.galumper.specs.declared.Answered.{Answered}
 use Rattle.galumper.specs.declared.FlatAnswer.{FlatAnswer}
+use Rattle.galumper.specs.declared.FlatBatched.{FlatBatched}
 use Rattle.galumper.specs.declared.FlatHead.{FlatHead}
 use Rattle.galumper.specs.declared.Reading.{Reading}
-use Rattle.galumper.specs.Calls.{outcomeOut, handedBack, reportOut, readingOut}
+use Rattle.galumper.specs.Calls.{outcomeOut, stopNumber, batchOut, handedBack, reportOut, readingOut}
 use Rattle.galumper.specs.Flat.{headIn, headOut}
 use Rattle.galumper.proofs.FlatLaws.{head-back}
-use Rattle.galumper_account.specs.Told.{refusalOf, countOf, answerOf, readOf}
+use Rattle.galumper_account.specs.Told.{refusalOf, countOf, stopOf, acceptedOf, answerOf, readOf}
 
 -- ---- numbers of refusals
 
@@ -57,16 +64,26 @@ numbered LastNumber = record { some = refl; back = refl }
 numbered ShortList = record { some = refl; back = refl }
 numbered Kinds = record { some = refl; back = refl }
 numbered Malformed = record { some = refl; back = refl }
+numbered LentSize = record { some = refl; back = refl }
 
 -- a refusal's number is read as that refusal, in an answer of any kind
 refused-back : {A : Type 0} (unless : A) (by : Refusal → A) (why : Refusal)
     → cond (eqb (refusalNumber why) 0) unless (by (refusalOf (refusalNumber why))) ≡ by why
 refused-back unless by why = let n = numbered why in rw (n .some) (ap by (n .back))
 
+stop-back : (s : Stop) → stopOf (stopNumber s) ≡ s
+stop-back Nothing = refl
+stop-back (By why) = refused-back Nothing By why
+
 -- the number of an answer
 abbrev pub countNumber : Count → ℕ
 countNumber (Count.Done n) = 0
 countNumber (Count.Refused why) = refusalNumber why
+
+-- both numbers of a batch's answer
+abbrev pub acceptedNumbers : Accepted → List ℕ
+acceptedNumbers (Accepted.Done n lines stop) = 0 ∷ stopNumber stop ∷ []
+acceptedNumbers (Accepted.Refused why) = refusalNumber why ∷ 0 ∷ []
 
 abbrev pub answerNumber : Answer → ℕ
 answerNumber Answer.Done = 0
@@ -127,6 +144,25 @@ outcome-read c s (done o) k = record {
   sound = sound-out (headOf (o .after)) k;
 }
 
+-- ---- a batch
+
+pub record Accepts (n : Batched) (r : FlatBatched) : Type 0 where
+  pub same : _≡_ {A = Batched} (record { answer = acceptedOf (r .answer); head = headIn (r .head) }) n
+  pub numbers : r .answer .refusal ∷ r .answer .stop ∷ [] ≡ acceptedNumbers (n .answer)
+  pub sound : Sound (r .head)
+
+pub batch-read : (c : FlatHead) → Sound c → (x : Result Batch) → OutcomeKeeps Number (outcomeOf x) → Accepts (batched (headIn c) x) (batchOut c x)
+batch-read c s (refused why) k = record {
+  same = λ i. record { answer = refused-back (Accepted.Done 0 0 Nothing) Accepted.Refused why i; head = headIn c };
+  numbers = refl;
+  sound = s;
+}
+batch-read c s (done r) k = record {
+  same = λ i. record { answer = Accepted.Done (r .accepted) (length (r .outcome .lines)) (stop-back (r .stop) i); head = head-back (headOf (r .outcome .after)) k i };
+  numbers = refl;
+  sound = sound-out (headOf (r .outcome .after)) k;
+}
+
 -- ---- creation, abort and the setters
 
 pub record Changes (n : Changed) (r : Answered) : Type 0 where
@@ -177,6 +213,11 @@ module _ (h : Head) (ts : List (List ℤ)) (gs : List (List ℕ)) (k : Keeps Num
       → OutcomeKeeps Number (onLent call h ts gs)
   unfolding onLent
   on-outcome call keeps = by-test (OutcomeKeeps Number) (not (wellFormedAt h ts gs)) (λ _. tt) (λ _. keeps _ k)
+
+  pub on-batch : (call : Buffer → Result Batch) → ((b : Buffer) → Keeps Number (b .settings) → OutcomeKeeps Number (outcomeOf (call b)))
+      → OutcomeKeeps Number (outcomeOf (onLent call h ts gs))
+  unfolding onLent
+  on-batch call keeps = by-test (λ (x : Result Batch). OutcomeKeeps Number (outcomeOf x)) (not (wellFormedAt h ts gs)) (λ _. tt) (λ _. keeps _ k)
 
   pub on-setting : (call : Buffer → Result Buffer) → ((b : Buffer) → Keeps Number (b .settings) → SettingKeeps Number (call b))
       → SettingKeeps Number (onLent call h ts gs)

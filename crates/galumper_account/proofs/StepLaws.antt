@@ -1,30 +1,42 @@
 -- Each exported call, by its own contract, on a sound head: what it hands back reads as what the library's call answers there.
 use mathlib.Core.Path.{_≡_, sym, subst}
-use mathlib.Core.List.{List}
+use mathlib.Core.List.{List, map}
 use Prim.Native.Nat.{ℕ}
 use lib.Dec.{T}
 use lib.IntN.{ℤ}
 use lib.Ieee.{Float, binary64, fits}
 use Rattle.seconds.proofs.NumberLaws.{Number, converts-number, end-number}
 use Rattle.buffer_state.specs.declared.Mode.{Mode}
-use Rattle.buffer_state.specs.Answers.{changed, createAnswer, abortAnswer, modeAnswer, offsetAnswer, windowStartAnswer, windowEndAnswer, counted, appendResult, removeResult}
+use Rattle.buffer_state.specs.Answers.{changed, createAnswer, abortAnswer, modeAnswer, offsetAnswer, windowStartAnswer, windowEndAnswer, counted, appendResult, removeResult, batched, batchResult}
 use Rattle.buffer_state.specs.Append.{append}
+use Rattle.buffer_state.specs.Batch as Rows
+use Rattle.buffer_state.specs.Batch.{batch}
 use Rattle.buffer_state.specs.Buffer.{Buffer}
 use Rattle.buffer_state.specs.Lent.{onLent}
 use Rattle.buffer_state.specs.Refusals.{Result, done}
 use Rattle.buffer_state.specs.Remove.{remove}
 use Rattle.buffer_state.specs.Settings.{aborted, modeSet, offsetSet, windowStartSet, windowEndSet}
-use Rattle.buffer_laws.proofs.KeptLaws.{Keeps, SettingKeeps, append-keeps, remove-keeps, abort-keeps, mode-keeps, offset-keeps, window-start-keeps, window-end-keeps}
+use Rattle.buffer_laws.proofs.KeptLaws.{Keeps, SettingKeeps, append-keeps, batch-keeps, remove-keeps, abort-keeps, mode-keeps, offset-keeps, window-start-keeps, window-end-keeps}
 use Rattle.galumper.specs.declared.Answered.{Answered}
+use Rattle.galumper.specs.declared.FlatBatched.{FlatBatched}
 use Rattle.galumper.specs.declared.FlatHead.{FlatHead}
 use Rattle.galumper.specs.declared.FlatOffered.{FlatOffered}
-use Rattle.galumper.specs.Calls.{outcomeOut, handedBack, createdOut, appendFlat, removeFlat}
+use Rattle.galumper.specs.Calls.{outcomeOut, handedBack, createdOut, appendFlat, removeFlat, batchFlat, batchOut}
 use Rattle.galumper.specs.Flat.{headIn, offeredIn}
-use Rattle.galumper_account.proofs.ReadLaws.{Sound, Counts, outcome-read, Changes, setting-read, made-numbers, created-read, on-outcome, on-setting}
+use Rattle.galumper_account.proofs.ReadLaws.{Sound, Counts, outcome-read, Accepts, batch-read, Changes, setting-read, made-numbers, created-read, on-outcome, on-batch, on-setting}
 
 pub creation : (kinds : List ℕ) (r : Answered) → r ≡ createdOut (createAnswer kinds) → Changes (createAnswer kinds) r
 unfolding createAnswer
 creation kinds r e = subst (Changes (createAnswer kinds)) (sym e) (created-read kinds)
+
+pub batching : (c : FlatHead) (ts : List (List ℤ)) (gs : List (List ℕ)) → Sound c → (r : FlatBatched) (lent : ℕ) (rows : List (List ℤ))
+    → r ≡ batchOut c (batchFlat lent rows c ts gs) → Accepts (batched (headIn c) (batchFlat lent rows c ts gs)) r
+unfolding batchResult
+batching c ts gs s r lent rows e =
+    let x = batchFlat lent rows c ts gs in
+    let fs = map Rows.offeredIn rows in
+    subst (Accepts (batched (headIn c) x)) (sym e)
+    (batch-read c s x (on-batch (headIn c) ts gs (s .numbers) (batch lent fs) (batch-keeps Number made-numbers lent fs)))
 
 module _ (c : FlatHead) (ts : List (List ℤ)) (gs : List (List ℕ)) (s : Sound c) (r : Answered) where
   -- ---- append and remove

@@ -11,18 +11,21 @@ use lib.Ieee.{Float, binary64, fits}
 use Rattle.buffer_state.specs.Buffer.{Buffer, fresh}
 use Rattle.buffer_state.specs.Lent.{Lent, headOf, timesIn, tagsIn}
 use Rattle.buffer_state.specs.Refusals.{Result, refused, done, refusalNumber}
-use Rattle.buffer_state.specs.Run.{Answer, Entry, run, lastOf}
+use Rattle.buffer_state.specs.Run.{Answer, ok, fates, settings, ranges, accepted, Entry, run, lastOf}
 use Rattle.account.specs.Made.{calls}
 use Rattle.account.specs.History as Account
 use Rattle.galumper.specs.declared.Answered.{Answered}
 use Rattle.galumper.specs.declared.FlatAnswer.{FlatAnswer}
+use Rattle.galumper.specs.declared.FlatBatched.{FlatBatched}
 use Rattle.galumper.specs.declared.FlatHead.{FlatHead}
 use Rattle.galumper.specs.declared.FlatOffered.{FlatOffered}
 use Rattle.galumper.specs.declared.Reading.{Reading}
+use Rattle.galumper.specs.Calls.{stopNumber}
 use Rattle.galumper.specs.Flat.{headIn, headOut}
-use Rattle.galumper_account.specs.Told.{Ask, append, remove, abort, setSegments, setSequence, setOffset, setWindowStart, setWindowEnd, readSettings, trackRanges, commonRanges, Told, numberIn, made}
+use Rattle.galumper_account.specs.Told.{Ask, append, remove, abort, setSegments, setSequence, setOffset, setWindowStart, setWindowEnd, readSettings, trackRanges, commonRanges, batch, Told, numbersIn, made}
 use Rattle.galumper.proofs.galumper_lent_create.Reads as Create
 use Rattle.galumper.proofs.galumper_lent_append.Reads as Append
+use Rattle.galumper.proofs.galumper_lent_append_batch.Reads as Batch
 use Rattle.galumper.proofs.galumper_lent_remove.Reads as Remove
 use Rattle.galumper.proofs.galumper_lent_abort.Reads as Abort
 use Rattle.galumper.proofs.galumper_lent_set_segments.Reads as SetSegments
@@ -107,6 +110,12 @@ pub data From : Held → List Told → Held → Type 0 where
       (c .head, (at-last times (c .times), (at-last tags (c .tags), (at-last lent after, tt))))
       → From c ms t
       → From c (record { ask = commonRanges (now lent); got = record { answer = r; after = after } } ∷ ms) t
+  by-batch : {c t : Held} {ms : List Told} (rows : RefT (List (List ℤ))) (times : RefT (List (List ℤ))) (tags lent : RefT (List (List ℕ)))
+      (r : FlatBatched) (ts : List (List ℤ)) (gs after : List (List ℕ)) (κs : Lfts 4)
+      → Batch.Learnt κs (c .head, (rows, (at-last times (c .times), (at-last tags (c .tags), (lent, tt))))) r
+      (c .head, (rows, (at-last times ts, (at-last tags gs, (at-last lent after, tt)))))
+      → From (record { head = r .head; times = ts; tags = gs }) ms t
+      → From c (record { ask = batch (now rows) (now lent); got = record { answer = r .answer; after = after } } ∷ ms) t
 
 -- From a creation that was not refused: the kinds, the calls with their answers, the last buffer. What the arrays held before is any.
 pub data History : List ℕ → List Told → Held → Type 0 where
@@ -119,18 +128,22 @@ pub data History : List ℕ → List Told → Held → Type 0 where
 
 -- ---- the claim
 
--- the number of a result of the run, 0 where there is no refusal
-abbrev pub resultNumber : Result Answer → ℕ
-resultNumber (refused why) = refusalNumber why
-resultNumber (done a) = 0
+-- the numbers of a result of the run: of its refusal, and of the one that stopped a batch, 0 where there is none
+abbrev pub resultNumbers : Result Answer → List ℕ
+resultNumbers (refused why) = refusalNumber why ∷ 0 ∷ []
+resultNumbers (done ok) = 0 ∷ 0 ∷ []
+resultNumbers (done (fates ls)) = 0 ∷ 0 ∷ []
+resultNumbers (done (settings r)) = 0 ∷ 0 ∷ []
+resultNumbers (done (ranges rs)) = 0 ∷ 0 ∷ []
+resultNumbers (done (accepted n stop ls)) = 0 ∷ stopNumber stop ∷ []
 
 -- THE CLAIM about a history of exported calls.
 pub record Claim (kinds : List ℕ) (ms : List Told) (t : Held) : Type 0 where
   -- it is the plain run: results, last state, numbers given, account, lists kept
   pub claim : Account.Claim kinds (map made ms) (lentIn t)
-  -- every refusal number that was answered is that of the run's refusal, and 0 where the run's call is done
-  pub numbers : map (λ (m : Told). numberIn (m .ask) (m .got)) ms
-      ≡ map (λ (e : Entry). resultNumber (e .result)) (run (fresh kinds) (calls (map made ms)))
+  -- every refusal number that was answered is that of the run's refusal, and 0 where the run has none
+  pub numbers : map (λ (m : Told). numbersIn (m .ask) (m .got)) ms
+      ≡ map (λ (e : Entry). resultNumbers (e .result)) (run (fresh kinds) (calls (map made ms)))
   -- the buffer in the program's hands is the run's last one laid out, every bit of it
   pub buffer : t ≡ heldOf (lastOf (fresh kinds) (calls (map made ms)))
 

@@ -6,6 +6,8 @@ use lib.Dec.{T, eqb}
 use lib.IntN.{ℤ}
 use lib.Ieee.{Float, binary64, fits}
 use lib.ListN.{getD}
+use Rattle.buffer_state.specs.declared.Accepted.{Accepted}
+use Rattle.buffer_state.specs.declared.Accepted.the-variants as Accepted
 use Rattle.buffer_state.specs.declared.Answer.{Answer}
 use Rattle.buffer_state.specs.declared.Answer.the-variants as Answer
 use Rattle.buffer_state.specs.declared.Count.{Count}
@@ -14,10 +16,13 @@ use Rattle.buffer_state.specs.declared.Mode.the-variants.{Segments, Sequence}
 use Rattle.buffer_state.specs.declared.Read.{Read}
 use Rattle.buffer_state.specs.declared.Read.the-variants as Read
 use Rattle.buffer_state.specs.declared.Refusal.{Refusal}
-use Rattle.buffer_state.specs.declared.Refusal.the-variants.{IllFormed, ShortFates, NoTrack, FrameLimits, Seconds, Order, ResultLimits, Full, LastNumber, ShortList, Kinds, Malformed}
+use Rattle.buffer_state.specs.declared.Refusal.the-variants.{IllFormed, ShortFates, NoTrack, FrameLimits, Seconds, Order, ResultLimits, Full, LastNumber, ShortList, Kinds, Malformed, LentSize}
+use Rattle.buffer_state.specs.declared.Stop.{Stop}
+use Rattle.buffer_state.specs.declared.Stop.the-variants.{Nothing, By}
 use Rattle.account.specs.Made as Account
 use Rattle.account.specs.Made.{Given, Back, Made}
 use Rattle.galumper.specs.declared.FlatAnswer.{FlatAnswer}
+use Rattle.galumper.specs.declared.FlatBatch.{FlatBatch}
 use Rattle.galumper.specs.declared.FlatOffered.{FlatOffered}
 use Rattle.galumper.specs.declared.Reading.{Reading}
 use Rattle.galumper.specs.Flat.{offeredIn}
@@ -38,11 +43,17 @@ pub data Ask : Type 0 where
   readSettings : Ask
   trackRanges : ℕ → List (List ℤ) → Ask
   commonRanges : List (List ℤ) → Ask
+  batch : List (List ℤ) → List (List ℕ) → Ask
 
 -- an answer that counts lines or ranges, and the lent list afterwards
 pub record Filled (A : Type 0) : Type 0 where
   pub answer : FlatAnswer
   pub after : List A
+
+-- a batch's answer, and the lent fate list afterwards
+pub record Joined : Type 0 where
+  pub answer : FlatBatch
+  pub after : List (List ℕ)
 
 abbrev pub Got : Ask → Type 0
 Got (append f lent) = Filled (List ℕ)
@@ -56,35 +67,43 @@ Got (setWindowEnd x f) = FlatAnswer
 Got readSettings = Reading
 Got (trackRanges track lent) = Filled (List ℤ)
 Got (commonRanges lent) = Filled (List ℤ)
+Got (batch rows lent) = Joined
 
 pub record Told : Type 0 where
   pub ask : Ask
   pub got : Got ask
 
--- the refusal number that a call answered, 0 where it was done
-abbrev pub numberIn : (a : Ask) → Got a → ℕ
-numberIn (append f lent) g = g .answer .refusal
-numberIn (remove start end lent) g = g .answer .refusal
-numberIn abort g = g .refusal
-numberIn setSegments g = g .refusal
-numberIn setSequence g = g .refusal
-numberIn (setOffset x f) g = g .refusal
-numberIn (setWindowStart x f) g = g .refusal
-numberIn (setWindowEnd x f) g = g .refusal
-numberIn readSettings g = g .refusal
-numberIn (trackRanges track lent) g = g .answer .refusal
-numberIn (commonRanges lent) g = g .answer .refusal
+-- the numbers that a call answered: of its refusal, 0 where it was done; of the refusal that stopped a batch, 0 where none did
+abbrev pub numbersIn : (a : Ask) → Got a → List ℕ
+numbersIn (append f lent) g = g .answer .refusal ∷ 0 ∷ []
+numbersIn (remove start end lent) g = g .answer .refusal ∷ 0 ∷ []
+numbersIn abort g = g .refusal ∷ 0 ∷ []
+numbersIn setSegments g = g .refusal ∷ 0 ∷ []
+numbersIn setSequence g = g .refusal ∷ 0 ∷ []
+numbersIn (setOffset x f) g = g .refusal ∷ 0 ∷ []
+numbersIn (setWindowStart x f) g = g .refusal ∷ 0 ∷ []
+numbersIn (setWindowEnd x f) g = g .refusal ∷ 0 ∷ []
+numbersIn readSettings g = g .refusal ∷ 0 ∷ []
+numbersIn (trackRanges track lent) g = g .answer .refusal ∷ 0 ∷ []
+numbersIn (commonRanges lent) g = g .answer .refusal ∷ 0 ∷ []
+numbersIn (batch rows lent) g = g .answer .refusal ∷ g .answer .stop ∷ []
 
 -- ---- the same in the account's words
 
 -- The refusal of a number of the table. That the number is the table's, and not one that is only taken for it, is a part of the claim.
 abbrev pub refusalOf : ℕ → Refusal
 refusalOf n =
-    getD (IllFormed ∷ ShortFates ∷ NoTrack ∷ FrameLimits ∷ Seconds ∷ Order ∷ ResultLimits ∷ Full ∷ LastNumber ∷ ShortList ∷ Kinds ∷ Malformed ∷ [])
+    getD (IllFormed ∷ ShortFates ∷ NoTrack ∷ FrameLimits ∷ Seconds ∷ Order ∷ ResultLimits ∷ Full ∷ LastNumber ∷ ShortList ∷ Kinds ∷ Malformed ∷ LentSize ∷ [])
     (n - 1) IllFormed
 
 abbrev pub countOf : FlatAnswer → Count
 countOf a = cond (eqb (a .refusal) 0) (Count.Done (a .count)) (Count.Refused (refusalOf (a .refusal)))
+
+abbrev pub stopOf : ℕ → Stop
+stopOf n = cond (eqb n 0) Nothing (By (refusalOf n))
+
+abbrev pub acceptedOf : FlatBatch → Accepted
+acceptedOf a = cond (eqb (a .refusal) 0) (Accepted.Done (a .accepted) (a .count) (stopOf (a .stop))) (Accepted.Refused (refusalOf (a .refusal)))
 
 abbrev pub answerOf : FlatAnswer → Answer
 answerOf a = cond (eqb (a .refusal) 0) Answer.Done (Answer.Refused (refusalOf (a .refusal)))
@@ -107,6 +126,7 @@ given (setWindowEnd x f) = Account.setWindowEnd x
 given readSettings = Account.readSettings
 given (trackRanges track lent) = Account.trackRanges track lent
 given (commonRanges lent) = Account.commonRanges lent
+given (batch rows lent) = Account.batch rows lent
 
 abbrev pub back : (a : Ask) → Got a → Back (given a)
 back (append f lent) g = record { answer = countOf (g .answer); after = g .after }
@@ -120,6 +140,7 @@ back (setWindowEnd x f) g = answerOf g
 back readSettings g = readOf g
 back (trackRanges track lent) g = record { answer = countOf (g .answer); after = g .after }
 back (commonRanges lent) g = record { answer = countOf (g .answer); after = g .after }
+back (batch rows lent) g = record { answer = acceptedOf (g .answer); after = g .after }
 
 abbrev pub made : Told → Made
 made t = record { given = given (t .ask); back = back (t .ask) (t .got) }

@@ -4,14 +4,14 @@ use mathlib.Core.Bool.{Bool, true, false, cond, not, _&&_, _||_, and-assoc}
 use lib.ListN.{length}
 use Rattle.laws.proofs.BoolLaws.{clash, split}
 use Rattle.buffer_state.specs.declared.Offered.{Offered}
-use Rattle.buffer_state.specs.Append.{Pass, passOf, endOffered, fits, breaks, regrouped, secondPass, lastPass, leavesLimits}
-use Rattle.buffer_state.specs.Buffer.{Buffer}
+use Rattle.buffer_state.specs.Append.{Pass, stepOne, stepTwo, passOf, endOffered, fits, breaks, regrouped, secondPass, lastPass, leavesLimits}
+use Rattle.buffer_state.specs.Buffer.{Buffer, isSequence}
 use Rattle.buffer_state.specs.Limits.{resultTime}
 use Rattle.buffer_laws.proofs.AppendLaws.{fits-facts, pass-good, first-from, regrouped-good}
 use Rattle.buffer_laws.proofs.GoodLaws.{Good}
 use Rattle.buffer_state.specs.declared.Head.{Head}
 use Rattle.buffer_state.specs.Lent.{headOf}
-use Rattle.heads.specs.Heads.{GoodHead, HasTrack, deciding}
+use Rattle.heads.specs.Heads.{GoodHead, HasTrack, Calm, deciding}
 use Rattle.heads.proofs.HeadLaws.{good-head, head-good}
 
 -- ---- refusal 7, in the order in which the code asks
@@ -60,6 +60,19 @@ module _ (b : Buffer) (f : Offered) where
   pub decides-last : leavesLimits b f ≡ false → deciding b f ≡ lastPass b f
   unfolding deciding leavesLimits
   decides-last e = split (fits (passOf b f)) (λ t. rw t) (λ t. clash (rw t at e))
+
+-- ---- a pass that leaves the buffer as it is
+
+pub still : (b : Buffer) (f : Offered) → (isSequence (b .mode) && b .group .begun) ≡ false → stepOne b f ≡ b
+unfolding stepOne
+still b f e = rw e
+
+pub calm : (b : Buffer) (f : Offered) → let p : Pass = record { buffer = b; frame = stepTwo b f } in
+    (isSequence (b .mode) && b .group .begun) ≡ false → fits p ≡ true → breaks p ≡ false → Calm b f (stepTwo b f)
+unfolding passOf lastPass leavesLimits
+calm b f begun fit unbroken =
+    let first : passOf b f ≡ record { buffer = b; frame = stepTwo b f } = ap (λ (c : Buffer). record { buffer = c; frame = stepTwo c f }) (still b f begun) in
+    record { last = rw (first, unbroken); inside = rw (first, fit, unbroken) }
 
 -- ---- a first pass that is not refused, from a good head
 

@@ -1,12 +1,12 @@
 -- What an append reads of a head and changes there: steps 1 to 6, and step 9.
 use mathlib.Core.Path.{_≡_}
-use mathlib.Core.Bool.{true, cond}
+use mathlib.Core.Bool.{true, false, cond}
 use Prim.Native.Nat.{ℕ, _+_, _≤_}
 use lib.Dec.{eqb}
 use Rattle.buffer_state.specs.declared.Group.{Group}
 use Rattle.buffer_state.specs.declared.Head.{Head}
 use Rattle.buffer_state.specs.declared.Offered.{Offered}
-use Rattle.buffer_state.specs.Append.{Pass, passOf, fits, lastPass, beforeWindow, pastWindow, lacksRandomAccess}
+use Rattle.buffer_state.specs.Append.{Pass, passOf, fits, lastPass, leavesLimits, beforeWindow, pastWindow, lacksRandomAccess}
 use Rattle.buffer_state.specs.Buffer.{Buffer, trackOf, withTrack, withNeed}
 use Rattle.buffer_state.specs.Lent.{headOf}
 use Rattle.buffer_state.specs.WellFormed.{goodBuffer}
@@ -53,6 +53,11 @@ passedAs p = record { head = headOf (p .buffer); frame = p .frame; fits = fits p
 -- the pass that decides: the first where refusal 7 takes it, else the last
 unfoldable pub deciding : Buffer → Offered → Pass
 deciding b f = cond (fits (passOf b f)) (lastPass b f) (passOf b f)
+
+-- the pass that step 4 goes on from is of this buffer as it is, and refusal 7 does not take it
+pub record Calm (b : Buffer) (f g : Offered) : Type 0 where
+  pub last : lastPass b f ≡ record { buffer = b; frame = g }
+  pub inside : leavesLimits b f ≡ false
 
 -- the cause by which steps 4 to 6 drop the frame, 0 where it is stored
 unfoldable pub dropCause : Pass → ℕ

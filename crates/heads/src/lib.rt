@@ -13,7 +13,7 @@ ghost use Rattle.buffer_state.specs.Buffer.{Buffer, isSequence, trackOf, withTr
 ghost use Rattle.buffer_state.specs.Lent.{headOf};
 ghost use Rattle.buffer_state.specs.Limits.{offeredTime, resultTime, lastNumber, places};
 ghost use Rattle.buffer_state.specs.WellFormed.{goodTrack};
-ghost use Rattle.heads.specs.Heads.{GoodHead, HasTrack, passedAs, deciding, dropCause, dropBuffer, nextHead, grownHead};
+ghost use Rattle.heads.specs.Heads.{GoodHead, HasTrack, Calm, passedAs, deciding, dropCause, dropBuffer, nextHead, grownHead};
 use buffer_state::Frame;
 use buffer_state::Group;
 use buffer_state::Head;
@@ -53,12 +53,15 @@ fn with_track(h: Head, n: u32, t: Track) -> Head
     out
 }
 
-// Need-random-access on or off for one track.
+// Need-random-access on or off for one track. Where it is off already, as for most frames, no head is made.
 pub fn need_track(h: Head, n: u32, on: bool) -> Head
     requires { ⌜ HasTrack h n ⌝ }
     ensures { λ r. ⌜ ((b : Buffer) → h ≡ headOf b → r ≡ headOf (withTrack b n (withNeed on (trackOf b n)))) ⌝ }
 {
     let t = track_of(h, n);
+    if !on & !t.need {
+        return h;
+    }
     with_track(h, n, tracks::with_need(t, on))
 }
 
@@ -239,6 +242,36 @@ fn breaks(h: Head, g: Offered) -> bool
     ensures { λ r. ⌜ ((b : Buffer) → h ≡ headOf b → r ≡ breaks (record { buffer = b; frame = g })) ⌝ }
 {
     is_break(track_of(h, g.track), g.dts)
+}
+
+// A frame after step 2, and whether its first pass is the last and leaves the head as it is.
+pub struct Steady {
+    pub ok: bool,
+    pub frame: Offered,
+}
+
+// Where step 1 has nothing to do, no time leaves the limits and there is no break, no head need be made.
+pub fn steady_frame(h: Head, f: Offered) -> Steady
+    requires { ⌜ GoodHead h × (offerable f ≡ true) × HasTrack h (f .track) ⌝ }
+    ensures { λ r. ⌜ ((b : Buffer) → h ≡ headOf b → r .ok ≡ true → Calm b f (r .frame)) ⌝ }
+{
+    if begins(h) {
+        return Steady {
+            ok: false,
+            frame: f,
+        };
+    }
+    let g = step_two(h, f);
+    if !fits(h, g) {
+        return Steady {
+            ok: false,
+            frame: g,
+        };
+    }
+    Steady {
+        ok: !breaks(h, g),
+        frame: g,
+    }
 }
 
 // After a break: the group moved, the three unset and need-random-access on for all tracks.

@@ -128,16 +128,25 @@ fn open_times(times: &mut [[i64; 2]], p: usize, n: usize)
     }
 }
 
+// Two in a turn, which the compiler does for the times by itself.
 fn open_tags(tags: &mut [[u32; 4]], p: usize, n: usize)
     requires { ⌜ (p ≤ n) × (n < length (now tags)) ⌝ }
     ensures { λ r. ⌜ now (tags .exit) ≡ opened p n (now (tags .entry)) ⌝ }
 {
     let mut i = n;
-    while p < i {
+    while p + 1 < i {
         let j = i - 1;
         let t = tags[j];
         tags[i] = t;
-        i = j;
+        let k = j - 1;
+        let u = tags[k];
+        tags[j] = u;
+        i = k;
+    }
+    if p < i {
+        let j = i - 1;
+        let t = tags[j];
+        tags[i] = t;
     }
 }
 

@@ -54,6 +54,14 @@ pub fn settings(count: usize, doubles: [f64; 3]) {
     }
 }
 
+// How many frames of a batch were accepted, and the refusal that stopped it or 0.
+pub fn batch(accepted: usize, stop: usize) {
+    text::put(b" batch ");
+    text::number(accepted as u64);
+    text::put(b" ");
+    text::number(stop as u64);
+}
+
 // ---- the state
 
 // The kind of the track at place i, where there are more than i.

@@ -46,8 +46,8 @@ fn bare(kind: u32) -> Call {
     }
 }
 
-// Any number from 0 up is a track's: one beyond 32 bits is no buffer's.
-fn track_of(w: &[u8]) -> Small {
+// Any number from 0 up. One beyond 32 bits is as good as the last of them: no buffer has such a track, and no script so many frames.
+pub fn natural(w: &[u8]) -> Small {
     match text::read::as_small(w) {
         Small::Is(n) => Small::Is(n),
         Small::Above => Small::Is(4294967295),
@@ -56,11 +56,9 @@ fn track_of(w: &[u8]) -> Small {
     }
 }
 
-fn append_call(line: &[u8], w: Words) -> Parsed {
-    let Room::Is(lines) = lent(line, w, 6, b"fates=", LINES) else {
-        return Parsed::Unknown;
-    };
-    let Small::Is(track) = track_of(word(line, w, 1)) else {
+// The append of a frame by the five words after the first.
+pub fn frame_call(line: &[u8], w: Words) -> Parsed {
+    let Small::Is(track) = natural(word(line, w, 1)) else {
         return Parsed::Unknown;
     };
     let Whole::Is(pts) = text::read::as_whole(word(line, w, 2)) else {
@@ -84,9 +82,26 @@ fn append_call(line: &[u8], w: Words) -> Parsed {
         duration,
         pts,
         dts,
-        lines,
         ..bare(call_rows::APPEND)
     })
+}
+
+fn append_call(line: &[u8], w: Words) -> Parsed {
+    let Room::Is(lines) = lent(line, w, 6, b"fates=", LINES) else {
+        return Parsed::Unknown;
+    };
+    let Parsed::Call(c) = frame_call(line, w) else {
+        return Parsed::Unknown;
+    };
+    Parsed::Call(Call { lines, ..c })
+}
+
+// The frames of a batch are lent beside it.
+pub fn batch_call(lines: usize) -> Call {
+    Call {
+        lines,
+        ..bare(call_rows::BATCH)
+    }
 }
 
 fn remove_call(line: &[u8], w: Words) -> Parsed {
@@ -150,7 +165,7 @@ fn ranges_call(line: &[u8], w: Words) -> Parsed {
     let Room::Is(places) = lent(line, w, 2, b"places=", PLACES) else {
         return Parsed::Unknown;
     };
-    let Small::Is(track) = track_of(word(line, w, 1)) else {
+    let Small::Is(track) = natural(word(line, w, 1)) else {
         return Parsed::Unknown;
     };
     Parsed::Call(Call {
@@ -229,7 +244,7 @@ pub enum Kind {
 
 // Any number from 0 up is a kind: one beyond a byte is as unknown as 255.
 fn kind_of(w: &[u8]) -> Kind {
-    let Small::Is(n) = track_of(w) else {
+    let Small::Is(n) = natural(w) else {
         return Kind::Not;
     };
     if 255 < n {

@@ -3,11 +3,13 @@ ghost use Prim.Native.Nat.{_≤_};
 ghost use lib.ListN.{length};
 
 mod answers;
+mod batches;
 mod calls;
 mod input;
 mod marks;
 mod segment;
 
+use batches::Opened;
 use buffer_state::Answer;
 use buffer_state::Head;
 use call_rows::Step;
@@ -19,18 +21,25 @@ use script::pokes::Poked;
 use script::pokes::Verdict;
 use script::words;
 use script::words::Words;
+use slots::Batch;
 use slots::Session;
 use slots::Slot;
-use text::read::Small;
 
 const COMMENT: u8 = 35; // `#`
 
 // ---- a call on the slot in use
 
+fn gives_fates(kind: u32) -> bool {
+    if kind == call_rows::BATCH {
+        return true;
+    }
+    kind <= call_rows::REMOVE
+}
+
 // Whether what a call must leave as it was still holds the marks: the places past the count in the list that it writes, and the other
 // list whole.
 fn untouched(kind: u32, count: usize, fates: &[[u32; 2]], list: &[[i64; 2]]) -> bool {
-    if kind <= call_rows::REMOVE {
+    if gives_fates(kind) {
         return marks::marked(fates, count, list, 0);
     }
     if kind < call_rows::TRACK_RANGES {
@@ -40,26 +49,30 @@ fn untouched(kind: u32, count: usize, fates: &[[u32; 2]], list: &[[i64; 2]]) -> 
 }
 
 // What a call that was not refused answers.
-fn done(kind: u32, count: usize, doubles: [f64; 3], fates: &[[u32; 2]], list: &[[i64; 2]]) {
+fn done(kind: u32, step: Step, fates: &[[u32; 2]], list: &[[i64; 2]]) {
     if kind == call_rows::READ {
-        answers::settings(count, doubles);
+        let doubles = step.doubles;
+        answers::settings(step.count, doubles);
         return;
     }
     text::put(b"ok");
-    if kind <= call_rows::REMOVE {
+    if kind == call_rows::BATCH {
+        answers::batch(step.accepted, step.stop);
+    }
+    if gives_fates(kind) {
         text::put(b" ");
-        text::fates(fates, count);
+        text::fates(fates, step.count);
+        return;
     }
     if call_rows::TRACK_RANGES <= kind {
         text::put(b" ");
-        text::ranges(list, count);
+        text::ranges(list, step.count);
     }
 }
 
 fn told(kind: u32, step: Step, fates: &[[u32; 2]], list: &[[i64; 2]]) {
     if step.refusal == 0 {
-        let doubles = step.doubles;
-        done(kind, step.count, doubles, fates, list);
+        done(kind, step, fates, list);
     } else {
         answers::refused(step.refusal);
     }
@@ -70,6 +83,7 @@ fn told(kind: u32, step: Step, fates: &[[u32; 2]], list: &[[i64; 2]]) {
 fn made(
     head: Head,
     c: Call,
+    frames: &[[i64; 6]],
     times: &mut [[i64; 2]; 1024],
     tags: &mut [[u32; 4]; 1024],
     fates: &mut [[u32; 2]],
@@ -87,6 +101,7 @@ fn made(
         row,
         stamps,
         seconds,
+        frames,
         times,
         tags,
         &mut fates[0..lines],
@@ -98,6 +113,7 @@ fn made(
 fn on_lists(
     slot: Slot,
     c: Call,
+    frames: &[[i64; 6]],
     times: &mut [[i64; 2]; 1024],
     tags: &mut [[u32; 4]; 1024],
     fates: &mut [[u32; 2]; 4096],
@@ -115,7 +131,7 @@ fn on_lists(
         answers::none();
         return slot;
     }
-    let step = made(slots::handed(slot), c, times, tags, fates, list);
+    let step = made(slots::handed(slot), c, frames, times, tags, fates, list);
     told(c.kind, step, fates, list);
     if step.refusal != 0 {
         return slot;
@@ -124,10 +140,17 @@ fn on_lists(
     slots::slot_of(h)
 }
 
-fn on_call(slot: Slot, c: Call, times: &mut [[i64; 2]; 1024], tags: &mut [[u32; 4]; 1024]) -> Slot {
+// A call, with the frames of a batch.
+fn on_call(
+    slot: Slot,
+    c: Call,
+    frames: &[[i64; 6]],
+    times: &mut [[i64; 2]; 1024],
+    tags: &mut [[u32; 4]; 1024],
+) -> Slot {
     let mut fates = [[marks::LINE; 2]; 4096];
     let mut list = [[marks::TIME; 2]; 4096];
-    on_lists(slot, c, times, tags, &mut fates, &mut list)
+    on_lists(slot, c, frames, times, tags, &mut fates, &mut list)
 }
 
 fn create(
@@ -228,7 +251,7 @@ fn on_slot(
         return poke(slot, line, w, times, tags);
     }
     match calls::call_of(line, w) {
-        Parsed::Call(c) => on_call(slot, c, times, tags),
+        Parsed::Call(c) => on_call(slot, c, &[], times, tags),
         Parsed::Unknown => {
             answers::unknown();
             slot
@@ -308,14 +331,43 @@ fn restore(
     slots::with_used(s, slot)
 }
 
-// A batch is of a later request, so it has one answer, and the frames that belong to it have none.
-fn batch(s: Session, line: &[u8], w: Words) -> Session {
+// A batch has its one answer once no frame is to come.
+fn gathered(
+    s: Session,
+    b: Batch,
+    rows: &[[i64; 6]],
+    times: &mut [[i64; 2]; 1024],
+    tags: &mut [[u32; 4]; 1024],
+) -> Session {
     let mut t = s;
-    if let Small::Is(n) = text::read::as_small(words::word(line, w, 1)) {
-        t.frames = n;
+    t.batch = b;
+    if 0 < b.left {
+        return t;
     }
-    answers::unknown();
-    t
+    if !b.read {
+        answers::unknown();
+        return t;
+    }
+    let frames = batches::kept(rows, b.rows);
+    let c = calls::batch_call(b.lines);
+    slots::with_used(t, on_call(slots::used(t), c, frames, times, tags))
+}
+
+fn begin_batch(
+    s: Session,
+    line: &[u8],
+    w: Words,
+    rows: &[[i64; 6]],
+    times: &mut [[i64; 2]; 1024],
+    tags: &mut [[u32; 4]; 1024],
+) -> Session {
+    match batches::begun(line, w) {
+        Opened::Is(b) => gathered(s, b, rows, times, tags),
+        Opened::Not => {
+            answers::unknown();
+            s
+        }
+    }
 }
 
 // A line on the store of the slot in use, with the saved one beside it.
@@ -323,6 +375,7 @@ fn answer(
     s: Session,
     line: &[u8],
     w: Words,
+    rows: &[[i64; 6]],
     times: &mut [[i64; 2]; 1024],
     tags: &mut [[u32; 4]; 1024],
     saved_times: &mut [[i64; 2]; 1024],
@@ -339,7 +392,7 @@ fn answer(
         return restore(s, w, times, tags, saved_times, saved_tags);
     }
     if check::same(name, b"batch") {
-        return batch(s, line, w);
+        return begin_batch(s, line, w, rows, times, tags);
     }
     if check::same(name, b"segment") {
         segment::call(line, w);
@@ -355,11 +408,28 @@ fn blank(line: &[u8]) -> bool {
     line[0] == COMMENT
 }
 
+// A line that belongs to a batch.
+fn on_frame(
+    s: Session,
+    line: &[u8],
+    cut: bool,
+    w: Words,
+    rows: &mut [[i64; 6]; 65],
+    times: &mut [[i64; 2]; 1024],
+    tags: &mut [[u32; 4]; 1024],
+) -> Session
+    requires { ⌜ 1 ≤ s .batch .left ⌝ }
+{
+    let b = batches::with_frame(s.batch, line, cut, w, rows);
+    gathered(s, b, rows, times, tags)
+}
+
 // A line, which is cut off where it fills its room.
 fn on_line(
     s: Session,
     line: &[u8],
     cut: bool,
+    rows: &mut [[i64; 6]; 65],
     times: &mut [[i64; 2]; 1024],
     tags: &mut [[u32; 4]; 1024],
     saved_times: &mut [[i64; 2]; 1024],
@@ -368,24 +438,25 @@ fn on_line(
     if blank(line) {
         return s;
     }
-    let mut t = s;
     let w = words::words_of(line);
-    if 0 < t.frames && check::same(words::word(line, w, 0), b"frame") {
-        t.frames -= 1;
-        return t;
+    if 0 < s.batch.left && check::same(words::word(line, w, 0), b"frame") {
+        return on_frame(s, line, cut, w, rows, times, tags);
     }
-    t.frames = 0;
+    batches::cut_short(s.batch);
+    let mut t = s;
+    t.batch = slots::no_batch();
     if cut {
         answers::unknown();
         return t;
     }
-    answer(t, line, w, times, tags, saved_times, saved_tags)
+    answer(t, line, w, rows, times, tags, saved_times, saved_tags)
 }
 
 // The lines one after another, each on the store of the slot then in use.
 fn run(
     chunk: &mut [u8; 4096],
     line: &mut [u8; 131072],
+    rows: &mut [[i64; 6]; 65],
     times: &mut [[i64; 2]; 1024],
     tags: &mut [[u32; 4]; 1024],
     second_times: &mut [[i64; 2]; 1024],
@@ -406,15 +477,17 @@ fn run(
                 s,
                 text,
                 cut,
+                rows,
                 second_times,
                 second_tags,
                 saved_times,
                 saved_tags,
             );
         } else {
-            s = on_line(s, text, cut, times, tags, saved_times, saved_tags);
+            s = on_line(s, text, cut, rows, times, tags, saved_times, saved_tags);
         }
         if r.ended {
+            batches::cut_short(s.batch);
             return;
         }
     }
@@ -423,6 +496,7 @@ fn run(
 fn main() {
     let mut chunk = [0u8; 4096];
     let mut line = [0u8; 131072];
+    let mut rows = [[0i64; 6]; 65]; // of a batch: one more than it may have, as more are refused like 65
     let mut times = [[0i64; 2]; 1024];
     let mut tags = [[0u32; 4]; 1024];
     let mut second_times = [[0i64; 2]; 1024];
@@ -432,6 +506,7 @@ fn main() {
     run(
         &mut chunk,
         &mut line,
+        &mut rows,
         &mut times,
         &mut tags,
         &mut second_times,

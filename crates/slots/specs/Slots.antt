@@ -66,5 +66,5 @@ withUsed s slot = record {
   second = cond (s .«second_used») slot (s .second);
   saved = s .saved;
   «second_used» = s .«second_used»;
-  frames = s .frames;
+  batch = s .batch;
 }

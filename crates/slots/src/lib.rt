@@ -1,4 +1,5 @@
-// The two buffers of a session and its saved state: their heads. The stores of the three are lent beside them.
+// The two buffers of a session and its saved state: their heads, and what is gathered of a batch. The stores of the three and the rows of
+// the batch are lent beside them.
 ghost use mathlib.Core.Path.{_≡_};
 ghost use lib.ListN.{length};
 ghost use Rattle.slots.specs.Slots.{setOf, slotOf, togetherOf, holdsAll, handedOf, usedOf, withUsed};
@@ -16,12 +17,21 @@ pub struct Slot {
     pub spare: f64,
 }
 
+// A batch, whose frames stand in the lines after it: how many of them are still to come, how many rows are kept, the fate lines that it is
+// lent, and whether all of it could be read so far.
+pub struct Batch {
+    pub left: u32,
+    pub rows: usize,
+    pub lines: usize,
+    pub read: bool,
+}
+
 pub struct Session {
     pub first: Slot,
     pub second: Slot,
     pub saved: Slot,
     pub second_used: bool,
-    pub frames: u32, // lines that belong to a batch
+    pub batch: Batch,
 }
 
 fn set_of(t: Track) -> u8
@@ -60,14 +70,25 @@ fn empty() -> Slot {
     s
 }
 
+// No frames are to come.
+pub fn no_batch() -> Batch {
+    Batch {
+        left: 0,
+        rows: 0,
+        lines: 0,
+        read: true,
+    }
+}
+
 pub fn fresh() -> Session {
     let e = empty();
+    let batch = no_batch();
     Session {
         first: e,
         second: e,
         saved: e,
         second_used: false,
-        frames: 0,
+        batch,
     }
 }
 

@@ -3,8 +3,8 @@
 use std::hint::black_box;
 use std::time::Instant;
 
-use script::{Place, Subject};
-use second::{Mode, Offered, FRAME_PLACES};
+use script::{row_of, Place, Subject};
+use second::{Mode, Offered, BATCH_FRAMES, BATCH_LINES, FRAME_PLACES};
 
 use crate::segment::{segment, TRACK};
 
@@ -13,6 +13,10 @@ const FRAME: u32 = 40_000;
 
 /// A random access point each second.
 const FRAMES_A_SECOND: i64 = 25;
+
+/// A random access point each so many frames of a track in the store that a batch is put to, so that
+/// as many frames as a batch has can be removed, whole groups on each track.
+const BATCH_GROUP: i64 = 16;
 
 /// The appends of the survey line.
 const SURVEY: i64 = 100_000;
@@ -34,6 +38,18 @@ pub enum Case {
     Survey,
     /// Listing a segment of so many frames.
     Segment(u32),
+    /// As many frames as a batch can have, after the last of a buffer of so many tracks that they
+    /// fill to its last place.
+    Frames(Way, u32),
+}
+
+/// How several frames are appended.
+#[derive(Clone, Copy, Debug, PartialEq, Eq)]
+pub enum Way {
+    /// By a call each.
+    OneByOne,
+    /// By one call.
+    Batch,
 }
 
 /// A call on a buffer.
@@ -65,7 +81,7 @@ pub enum Call {
 
 /// An implementation to be timed, whatever its state.
 pub trait Measure {
-    /// One round of a case: microseconds a call.
+    /// One round of a case: microseconds a call, or for all of several frames.
     fn round(&mut self, case: Case) -> f64;
 }
 
@@ -81,16 +97,20 @@ impl<S: Subject> Runner<S> {
     pub fn new(subject: S) -> Self {
         Self {
             subject,
-            fates: vec![Place::of([0; 2]); FRAME_PLACES],
+            fates: vec![Place::of([0; 2]); BATCH_LINES],
             ranges: vec![Place::of([0; 2]); FRAME_PLACES],
         }
     }
 
     /// A buffer with frames, spread evenly over its tracks.
     fn filled(&mut self, tracks: u32, frames: usize) -> S::State {
+        self.with_frames(tracks, (0..frames).map(|number| frame(tracks, number)))
+    }
+
+    /// A buffer with these frames, all of which are kept.
+    fn with_frames(&mut self, tracks: u32, frames: impl Iterator<Item = Offered>) -> S::State {
         let mut state = self.subject.create(&kinds(tracks)).expect("a buffer");
-        for number in 0..frames {
-            let offered = frame(tracks, number);
+        for offered in frames {
             let appended = self.subject.append(&mut state, &offered, &mut self.fates);
             assert_eq!(appended, Ok(0), "a frame that is kept");
         }
@@ -171,6 +191,45 @@ impl<S: Subject> Runner<S> {
         micros_since(start) / SURVEY as f64
     }
 
+    /// The median time of appending a batch's frames one way or the other, each time on a copy of the
+    /// same state: a full store, of which the oldest frames have gone, as many as are appended.
+    fn frames(&mut self, way: Way, tracks: u32) -> f64 {
+        let frame = |number| grouped(tracks, number, BATCH_GROUP);
+        let mut held = self.with_frames(tracks, (0..FRAME_PLACES).map(frame));
+        let end = frame(BATCH_FRAMES).pts as f64 / 1e6;
+        let removed = self.subject.remove(&mut held, 0.0, end, &mut self.fates);
+        assert_eq!(removed, Ok(BATCH_FRAMES), "the oldest frames that go");
+        let frames: Vec<Offered> = (FRAME_PLACES..FRAME_PLACES + BATCH_FRAMES)
+            .map(frame)
+            .collect();
+        let rows: Vec<S::Row> = frames.iter().map(|f| Place::of(row_of(f))).collect();
+        let mut state = held.clone();
+        let mut time = || {
+            state.clone_from(&held);
+            let start = Instant::now();
+            let kept = match way {
+                Way::OneByOne => self.append_each(black_box(&mut state), &frames),
+                Way::Batch => self.append_batch(black_box(&mut state), &rows),
+            };
+            let time = micros_since(start);
+            assert_eq!(kept, BATCH_FRAMES, "frames that are kept");
+            time
+        };
+        median((0..CALLS).map(|_| time()).collect())
+    }
+
+    /// Appends frames by a call each; gives how many are kept and take nothing out.
+    fn append_each(&mut self, state: &mut S::State, frames: &[Offered]) -> usize {
+        let mut append = |offered| self.subject.append(state, offered, &mut self.fates);
+        frames.iter().filter(|f| append(f) == Ok(0)).count()
+    }
+
+    /// Appends frames by one call; gives how many are kept, if they take nothing out.
+    fn append_batch(&mut self, state: &mut S::State, rows: &[S::Row]) -> usize {
+        let batch = self.subject.append_batch(state, rows, &mut self.fates);
+        batch.map_or(0, |batch| batch.accepted - batch.lines)
+    }
+
     /// The median time of listing a segment, into a list that has its places to spare.
     fn segment(&mut self, frames: u32) -> f64 {
         let segment = segment(frames);
@@ -196,6 +255,7 @@ impl<S: Subject> Measure for Runner<S> {
             Case::Call(call, tracks, frames) => self.call(call, tracks, frames),
             Case::Survey => self.survey(),
             Case::Segment(frames) => self.segment(frames),
+            Case::Frames(way, tracks) => self.frames(way, tracks),
         }
     }
 }
@@ -207,6 +267,11 @@ fn kinds(tracks: u32) -> Vec<u32> {
 
 /// The n-th frame, from 0, of a buffer whose tracks take turns.
 fn frame(tracks: u32, number: usize) -> Offered {
+    grouped(tracks, number, FRAMES_A_SECOND)
+}
+
+/// The same, with a random access point each so many frames of a track.
+fn grouped(tracks: u32, number: usize, group: i64) -> Offered {
     let (turn, place) = (number as u32 % tracks, number as i64 / i64::from(tracks));
     let time = place * i64::from(FRAME);
     Offered {
@@ -214,7 +279,7 @@ fn frame(tracks: u32, number: usize) -> Offered {
         pts: time,
         dts: time,
         duration: FRAME,
-        flagged: place % FRAMES_A_SECOND == 0,
+        flagged: place % group == 0,
     }
 }
 

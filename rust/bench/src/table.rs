@@ -2,7 +2,7 @@
 
 use std::fmt;
 
-use crate::measure::{median, Call, Case, Measure};
+use crate::measure::{median, Call, Case, Measure, Way};
 
 const ROUNDS: usize = 15;
 
@@ -50,8 +50,8 @@ impl fmt::Display for Times {
     }
 }
 
-/// Times every case of both: the calls by tracks and sizes, the segments by their frames, then the
-/// survey line and the creations, which have no sizes. A creation is by value there and in place
+/// Times every case of both: the calls by tracks and sizes, the segments by their frames, a batch
+/// beside single appends by tracks, then the survey line and the creations, which have no sizes. A creation is by value there and in place
 /// here, so that its ratio says little, and is not counted among the others.
 pub fn report(proved: &mut dyn Measure, second: &mut dyn Measure) -> String {
     let mut cases = Vec::new();
@@ -62,6 +62,8 @@ pub fn report(proved: &mut dyn Measure, second: &mut dyn Measure) -> String {
     }
     let calls = cases.len();
     cases.extend(SEGMENTS.map(Case::Segment));
+    cases.extend(TRACKS.map(|tracks| Case::Frames(Way::OneByOne, tracks)));
+    cases.extend(TRACKS.map(|tracks| Case::Frames(Way::Batch, tracks)));
     cases.push(Case::Survey);
     let compared = cases.len();
     cases.extend(TRACKS.map(Case::Create));
@@ -69,19 +71,22 @@ pub fn report(proved: &mut dyn Measure, second: &mut dyn Measure) -> String {
     let times = measured(&cases, proved, second);
     let (compared, creations) = times.split_at(compared);
     let (calls, rest) = compared.split_at(calls);
-    let (segments, survey) = rest.split_at(SEGMENTS.len());
+    let (segments, rest) = rest.split_at(SEGMENTS.len());
+    let (singles, rest) = rest.split_at(TRACKS.len());
+    let (batches, survey) = rest.split_at(TRACKS.len());
     let survey = &survey[0];
     let ratios: Vec<f64> = compared.iter().map(Times::ratio).collect();
     let greatest = ratios.iter().copied().fold(0.0, f64::max);
     let middle = median(ratios);
     let creations: Vec<String> = creations.iter().map(Times::to_string).collect();
     format!(
-        "{}\n{}\n\
+        "{}\n{}\n{}\n\
          Survey line, one append of 100,000: {survey}.\n\
          Creation, on 1, 2 and 4 tracks: {}.\n\
          Ratios without creation: {middle:.2} in the median, {greatest:.2} at most.\n",
         table(calls),
         segment_table(segments),
+        batch_table(singles, batches),
         creations.join(", "),
     )
 }
@@ -110,6 +115,24 @@ fn segment_table(times: &[Times]) -> String {
             [times.proved, times.second].map(|micros| f64::from(frames) / micros);
         text.push_str(&format!(
             "| {frames} frames | {times} | {proved:.1} million | {second:.1} million |\n"
+        ));
+    }
+    text
+}
+
+/// A line for each count of tracks: 64 frames by a call each and by one call, and how many times
+/// cheaper the one call is.
+fn batch_table(singles: &[Times], batches: &[Times]) -> String {
+    let mut text = String::from(
+        "| 64 frames after 960, on | one by one | in one call | times cheaper, proved | second |\n",
+    );
+    text.push_str("|---|---|---|---|---|\n");
+    for (tracks, (single, batch)) in TRACKS.into_iter().zip(singles.iter().zip(batches)) {
+        let plural = if tracks == 1 { "" } else { "s" };
+        let proved = single.proved / batch.proved;
+        let second = single.second / batch.second;
+        text.push_str(&format!(
+            "| {tracks} track{plural} | {single} | {batch} | {proved:.1} | {second:.1} |\n"
         ));
     }
     text

@@ -5,7 +5,7 @@ use std::collections::BTreeMap;
 use script::Call;
 use second::State;
 
-use crate::answers::fates;
+use crate::answers::{batch, fates};
 
 /// The frames of one buffer that no fate line has named, each with its track.
 #[derive(Clone, Debug, Default)]
@@ -25,9 +25,9 @@ pub(crate) struct Accounts {
 
 impl Accounts {
     /// Books an answer that is no refusal; tells a line that names a frame not there.
-    pub(crate) fn book(&mut self, line: &str, answer: &str) -> Result<(), String> {
+    pub(crate) fn book(&mut self, call: &str, answer: &str) -> Result<(), String> {
         let slot = &mut self.slots[self.in_use];
-        match Call::read(line) {
+        match Call::read(call) {
             Some(Call::Create(_)) => *slot = Some(Account::default()),
             Some(Call::Buffer(number)) => self.in_use = number,
             Some(Call::Save) => self.saved = slot.clone(),
@@ -35,8 +35,16 @@ impl Accounts {
             Some(Call::Poke(_)) => *slot = None,
             Some(Call::Append(offered, _)) => {
                 if let Some(account) = slot {
-                    account.offered += 1;
-                    account.living.insert(account.offered, offered.track);
+                    account.open(offered.track);
+                    account.close(answer)?;
+                }
+            }
+            Some(Call::Batch(frames, _)) => {
+                if let Some(account) = slot {
+                    let (accepted, _) = batch(answer).unwrap_or_default();
+                    for frame in frames.iter().take(accepted) {
+                        account.open(frame.track);
+                    }
                     account.close(answer)?;
                 }
             }
@@ -60,6 +68,12 @@ impl Accounts {
 }
 
 impl Account {
+    /// A frame is offered and not refused, and takes the next number.
+    fn open(&mut self, track: u32) {
+        self.offered += 1;
+        self.living.insert(self.offered, track);
+    }
+
     fn close(&mut self, answer: &str) -> Result<(), String> {
         for (number, cause) in fates(answer) {
             if self.living.remove(&number).is_none() {

@@ -1,10 +1,15 @@
-//! Counting what the answers say: accepted and refused calls, causes, and the doubles handed in.
+//! Counting what the answers say: accepted and refused calls, causes, the doubles handed in, and what
+//! became of batches.
+
+mod batches;
 
 use std::collections::BTreeMap;
 use std::fmt::Write;
 
 use script::Call;
 use second::{micros, SECONDS_LIMIT};
+
+use batches::Batches;
 
 /// A call of the paper, with the refusals and causes that it can give.
 struct Row {
@@ -21,9 +26,10 @@ const fn row(call: &'static str, refusals: &'static [usize], causes: &'static [u
     }
 }
 
-const ROWS: [Row; 12] = [
+const ROWS: [Row; 13] = [
     row("create", &[11], &[]),
     row("append", &[1, 2, 3, 4, 9, 7, 8], &[1, 2, 3, 4, 5]),
+    row("batch", &[1, 13, 2], &[1, 2, 3, 4, 5]),
     row("remove", &[1, 2, 5, 6], &[5, 6]),
     row("abort", &[1], &[]),
     row("mode", &[1], &[]),
@@ -39,7 +45,7 @@ const ROWS: [Row; 12] = [
 const SEGMENT: &str = "segment";
 
 /// One more than the highest refusal.
-const REFUSALS: usize = 13;
+const REFUSALS: usize = 14;
 
 /// One more than the highest cause.
 const CAUSES: usize = 7;
@@ -96,21 +102,24 @@ pub struct Answers {
     pub declined: u64,
     /// Segments compared besides those of scripts.
     pub segments: u64,
+    /// Lists of rows compared besides the batches of scripts.
+    pub rows: u64,
     accepted: [u64; ROWS.len()],
     refused: [[u64; REFUSALS]; ROWS.len()],
     causes: [[u64; CAUSES]; ROWS.len()],
     doubles: [u64; DOUBLES.len()],
+    batches: Batches,
     /// What a segment is answered whole, and what damaged: none for no refusal.
     damage: BTreeMap<[Option<u32>; 2], u64>,
 }
 
 impl Answers {
     /// Counts an answer.
-    pub(crate) fn count(&mut self, line: &str, answer: &str) {
+    pub(crate) fn count(&mut self, call: &str, answer: &str) {
         self.answers += 1;
-        self.count_doubles(line);
-        let call = line.split(' ').next().unwrap_or_default();
-        let Some(row) = place(call) else {
+        self.count_words(call, answer);
+        let name = call.split(' ').next().unwrap_or_default();
+        let Some(row) = place(name) else {
             return;
         };
         match answer.split_once(' ') {
@@ -148,17 +157,22 @@ impl Answers {
         *self.damage.entry([whole.err(), torn.err()]).or_default() += 1;
     }
 
-    fn count_doubles(&mut self, line: &str) {
-        let doubles = match Call::read(line) {
-            Some(Call::Remove(start, end, _)) => vec![start, end],
+    /// Counts what a call hands in.
+    fn count_words(&mut self, call: &str, answer: &str) {
+        match Call::read(call) {
+            Some(Call::Remove(start, end, _)) => self.count_doubles(&[start, end]),
             Some(Call::Offset(time) | Call::WindowStart(time) | Call::WindowEnd(time)) => {
-                vec![time]
+                self.count_doubles(&[time]);
             }
-            _ => return,
-        };
+            Some(Call::Batch(frames, lines)) => self.batches.count(frames.len(), lines, answer),
+            _ => {}
+        }
+    }
+
+    fn count_doubles(&mut self, doubles: &[f64]) {
         for double in doubles {
             for (place, (_, is)) in self.doubles.iter_mut().zip(DOUBLES) {
-                *place += u64::from(is(double));
+                *place += u64::from(is(*double));
             }
         }
     }
@@ -190,6 +204,7 @@ impl Answers {
             .zip(self.doubles)
             .filter(|(_, times)| *times == 0);
         gaps.extend(missed.map(|((name, _), _)| format!("seconds, {name}: never")));
+        gaps.extend(self.batches.gaps());
         let missed = DAMAGE
             .iter()
             .filter(|pair| !self.damage.contains_key(*pair));
@@ -222,6 +237,7 @@ impl Answers {
         for ((name, _), times) in DOUBLES.iter().zip(self.doubles) {
             let _ = writeln!(text, "| {name} | {times} |");
         }
+        text.push_str(&self.batches.tables());
         text.push_str("\n| Segment, whole | Damaged | Times |\n|---|---|---|\n");
         for ([whole, torn], times) in &self.damage {
             let _ = writeln!(text, "| {} | {} | {times} |", said(*whole), said(*torn));
@@ -245,9 +261,15 @@ fn said(refusal: Option<u32>) -> String {
 
 /// The fate lines of an answer.
 pub(crate) fn fates(answer: &str) -> impl Iterator<Item = (u32, u32)> + '_ {
-    let lines = answer.strip_prefix("ok fates ").unwrap_or_default();
+    let (_, lines) = answer.split_once("fates ").unwrap_or_default();
     lines.split(' ').filter_map(|line| {
         let (number, cause) = line.strip_prefix('(')?.strip_suffix(')')?.split_once(',')?;
         Some((number.parse().ok()?, cause.parse().ok()?))
     })
+}
+
+/// How many frames a batch accepted, and the number of the refusal that stopped it, 0 for none.
+pub(crate) fn batch(answer: &str) -> Option<(usize, u32)> {
+    let mut words = answer.strip_prefix("ok batch ")?.split(' ');
+    Some((words.next()?.parse().ok()?, words.next()?.parse().ok()?))
 }

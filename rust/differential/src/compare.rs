@@ -2,11 +2,12 @@
 
 use std::fmt;
 
-use script::{state_line, Session, Subject};
+use script::{state_line, Call, Session, Subject};
 use second::State;
 
 use crate::account::Accounts;
 use crate::answers::Answers;
+use crate::singles::Singles;
 
 /// The calls that only read.
 const READING: [&str; 5] = ["settings", "ranges", "common", "segment", "state"];
@@ -14,10 +15,10 @@ const READING: [&str; 5] = ["settings", "ranges", "common", "segment", "state"];
 /// Where two implementations part.
 #[derive(Clone, Debug, PartialEq, Eq)]
 pub struct Parting {
-    /// The line of the script, from 1.
+    /// The place of the call in the script, from 1.
     pub number: usize,
-    /// The line itself.
-    pub line: String,
+    /// The call itself.
+    pub call: String,
     /// What the one says, or is.
     pub one: String,
     /// What the other says, or is.
@@ -26,13 +27,13 @@ pub struct Parting {
 
 impl fmt::Display for Parting {
     fn fmt(&self, f: &mut fmt::Formatter<'_>) -> fmt::Result {
-        writeln!(f, "line {}: {}", self.number, self.line)?;
+        writeln!(f, "call {}: {}", self.number, self.call)?;
         writeln!(f, "one:   {}", self.one)?;
         write!(f, "other: {}", self.other)
     }
 }
 
-/// Puts a script to two implementations; tells where they part first.
+/// Puts a script, call by call, to two implementations; tells where they part first.
 pub fn compare<A: Subject, B: Subject>(
     one: &mut A,
     other: &mut B,
@@ -45,11 +46,11 @@ pub fn compare<A: Subject, B: Subject>(
         accounts: Accounts::default(),
     };
     answers.scripts += 1;
-    for (number, line) in (1..).zip(script) {
-        pair.step(line, answers).map_err(|[one, other]| {
+    for (number, call) in (1..).zip(script) {
+        pair.step(call, answers).map_err(|[one, other]| {
             Box::new(Parting {
                 number,
-                line: line.clone(),
+                call: call.clone(),
                 one,
                 other,
             })
@@ -69,34 +70,35 @@ struct Pair<'a, A: Subject, B: Subject> {
 type Words = [String; 2];
 
 impl<A: Subject, B: Subject> Pair<'_, A, B> {
-    fn step(&mut self, line: &str, answers: &mut Answers) -> Result<(), Words> {
-        if line.starts_with("poke ") {
-            return self.poke(line, answers);
+    fn step(&mut self, call: &str, answers: &mut Answers) -> Result<(), Words> {
+        if call.starts_with("poke ") {
+            return self.poke(call, answers);
         }
         let before = self.views();
-        let said = [self.one.answer(line), self.other.answer(line)];
+        let said = [self.one.answer(call), self.other.answer(call)];
         let answer = match said {
             [None, None] => return Ok(()),
             [Some(one), Some(other)] if one == other => one,
             said => return Err(said.map(Option::unwrap_or_default)),
         };
-        answers.count(line, &answer);
+        answers.count(call, &answer);
         let after = self.views();
-        let call = line.split(' ').next().unwrap_or_default();
-        if answer.starts_with("refused") || READING.contains(&call) {
+        let name = call.split(' ').next().unwrap_or_default();
+        if answer.starts_with("refused") || READING.contains(&name) {
             unmoved(&before, &after)?;
         }
         self.same_states(&after, answers)?;
         if answer.starts_with("ok") {
-            self.book(line, &answer, &after, answers)?;
+            as_singles(call, &answer, &before, &after)?;
+            self.book(call, &answer, &after, answers)?;
         }
         Ok(())
     }
 
     /// A poke that one of them declines is made on neither.
-    fn poke(&mut self, line: &str, answers: &mut Answers) -> Result<(), Words> {
+    fn poke(&mut self, call: &str, answers: &mut Answers) -> Result<(), Words> {
         let before = (self.one.state().cloned(), self.other.state().cloned());
-        let said = [self.one.answer(line), self.other.answer(line)].map(Option::unwrap_or_default);
+        let said = [self.one.answer(call), self.other.answer(call)].map(Option::unwrap_or_default);
         if said.iter().any(|said| said == "declined") {
             answers.declined += 1;
             if let (Some(one), Some(other)) = before {
@@ -108,9 +110,9 @@ impl<A: Subject, B: Subject> Pair<'_, A, B> {
         if said[0] != said[1] {
             return Err(said);
         }
-        answers.count(line, &said[0]);
+        answers.count(call, &said[0]);
         self.same_states(&self.views(), answers)?;
-        self.accounts.book(line, &said[0]).map_err(of_both)
+        self.accounts.book(call, &said[0]).map_err(of_both)
     }
 
     fn views(&self) -> [Option<State>; 2] {
@@ -138,13 +140,13 @@ impl<A: Subject, B: Subject> Pair<'_, A, B> {
     /// Books the answer, and draws up the account where the script asks for the state.
     fn book(
         &mut self,
-        line: &str,
+        call: &str,
         answer: &str,
         views: &[Option<State>; 2],
         answers: &mut Answers,
     ) -> Result<(), Words> {
-        self.accounts.book(line, answer).map_err(of_both)?;
-        let state = views[0].as_ref().filter(|_| line == "state");
+        self.accounts.book(call, answer).map_err(of_both)?;
+        let state = views[0].as_ref().filter(|_| call == "state");
         match state.and_then(|state| self.accounts.balances(state)) {
             Some(false) => Err(of_both("the account does not balance".to_string())),
             Some(true) => {
@@ -154,6 +156,27 @@ impl<A: Subject, B: Subject> Pair<'_, A, B> {
             None => Ok(()),
         }
     }
+}
+
+/// A batch that both answer alike has done what its frames do one by one.
+fn as_singles(
+    call: &str,
+    answer: &str,
+    before: &[Option<State>; 2],
+    after: &[Option<State>; 2],
+) -> Result<(), Words> {
+    let (Some(Call::Batch(frames, _)), Some(state)) = (Call::read(call), before[0]) else {
+        return Ok(());
+    };
+    let singles = Singles::of(state, &frames);
+    let part = |said, due| Err([said, format!("one by one: {due}")]);
+    if answer != singles.answer() {
+        return part(answer.to_string(), singles.answer());
+    }
+    if after[0] != Some(singles.state) {
+        return part(shown(&after[0]), state_line(&singles.state));
+    }
+    Ok(())
 }
 
 /// A call that is refused or only reads leaves both states as they were.

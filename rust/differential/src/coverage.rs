@@ -1,21 +1,38 @@
-//! Counting the branches of the steps and of the reader of segments, and the clauses of the
-//! well-formed test.
+//! Counting the branches of the steps, of batches and of the reader of segments, and the clauses of
+//! the well-formed test.
 
 use std::fmt::Write;
 
-use second::{Branch, Fault, Framing, Parent, SegmentBranch, Trace};
+use second::{BatchBranch, Branch, Fault, Framing, Parent, SegmentBranch, Trace};
 
 /// Where in a call a branch is taken.
 #[derive(Clone, Copy, Debug, PartialEq, Eq)]
 enum Part {
     FirstPass,
     SecondPass,
+    BatchFirstPass,
+    BatchSecondPass,
     Removal,
 }
 
-use Part::{FirstPass, Removal, SecondPass};
+use Part::{BatchFirstPass, BatchSecondPass, FirstPass, Removal, SecondPass};
 
-const PARTS: [Part; 3] = [FirstPass, SecondPass, Removal];
+const PARTS: [Part; 5] = [
+    FirstPass,
+    SecondPass,
+    BatchFirstPass,
+    BatchSecondPass,
+    Removal,
+];
+
+/// The pass of an append that a break begins; none after another part.
+fn after_break(part: Part) -> Option<Part> {
+    match part {
+        FirstPass => Some(SecondPass),
+        BatchFirstPass => Some(BatchSecondPass),
+        SecondPass | BatchSecondPass | Removal => None,
+    }
+}
 
 /// The parts in which a branch can be taken at all.
 fn parts(branch: Branch) -> &'static [Part] {
@@ -23,13 +40,15 @@ fn parts(branch: Branch) -> &'static [Part] {
     match branch {
         AppendBegins | Step1Unset | PresentationLeaves | Step3Equal | Step3Within | Step3Twice
         | Step3Below | Step3Beyond | Step6Clear | Step7Below | Step7At | Step7Above | Step7Gap
-        | Step9HighestRaised | Step9HighestKept | Step9GroupKept => &[FirstPass],
+        | Step9HighestRaised | Step9HighestKept | Step9GroupKept => &[FirstPass, BatchFirstPass],
         Step1Segments | Step1Moves | Step1Same | OffsetLeaves | DecodeLeaves | EndLeaves
         | Step3Unset | Step4Drop | Step5Drop | Step6Drop | Step6Off | Step7Unset | Full
         | RoomFreed | Step7Takes | Step7None | Step9Last | Step9Before | Step9Equal
-        | Step9HighestSet | Step9GroupRaised => &[FirstPass, SecondPass],
-        BreakInSegments | BreakInSequence => &[FirstPass, Removal],
-        Step8Takes | Step8Stops => &[FirstPass, SecondPass, Removal],
+        | Step9HighestSet | Step9GroupRaised => {
+            &[FirstPass, SecondPass, BatchFirstPass, BatchSecondPass]
+        }
+        BreakInSegments | BreakInSequence => &[FirstPass, BatchFirstPass, Removal],
+        Step8Takes | Step8Stops => &PARTS,
         RemoveBegins | RemoveUnbounded | RemoveEdge | RemoveNoEdge | RemoveNone
         | RemoveLosesTaken | RemoveLosesFollowing => &[Removal],
     }
@@ -39,12 +58,14 @@ fn parts(branch: Branch) -> &'static [Part] {
 #[derive(Clone, Debug)]
 pub struct Coverage {
     part: Part,
+    in_batch: bool,
     /// Whether step 1 ran in this pass.
     started: bool,
     branches: [[u64; PARTS.len()]; Branch::ALL.len()],
     faults: [u64; Fault::ALL.len()],
-    /// Breaks in the pass in which step 1 has just set the offset.
-    breaks_after_start: u64,
+    /// Breaks in the pass in which step 1 has just set the offset, outside a batch and in one.
+    breaks_after_start: [u64; 2],
+    batches: [u64; BatchBranch::ALL.len()],
     framings: [[u64; Parent::ALL.len()]; Framing::ALL.len()],
     segments: [u64; SegmentBranch::ALL.len()],
 }
@@ -53,10 +74,12 @@ impl Default for Coverage {
     fn default() -> Self {
         Self {
             part: FirstPass,
+            in_batch: false,
             started: false,
             branches: [[0; PARTS.len()]; Branch::ALL.len()],
             faults: [0; Fault::ALL.len()],
-            breaks_after_start: 0,
+            breaks_after_start: [0; 2],
+            batches: [0; BatchBranch::ALL.len()],
             framings: [[0; Parent::ALL.len()]; Framing::ALL.len()],
             segments: [0; SegmentBranch::ALL.len()],
         }
@@ -66,17 +89,32 @@ impl Default for Coverage {
 impl Trace for Coverage {
     fn reach(&mut self, branch: Branch) {
         match branch {
-            Branch::AppendBegins => (self.part, self.started) = (FirstPass, false),
+            Branch::AppendBegins => {
+                self.part = match self.in_batch {
+                    true => BatchFirstPass,
+                    false => FirstPass,
+                };
+                self.started = false;
+            }
             Branch::RemoveBegins => self.part = Removal,
             Branch::Step1Moves | Branch::Step1Same => self.started = true,
             _ => {}
         }
         self.branches[branch as usize][self.part as usize] += 1;
         let breaks = matches!(branch, Branch::BreakInSegments | Branch::BreakInSequence);
-        if breaks && self.part == FirstPass {
-            self.breaks_after_start += u64::from(self.started);
-            self.part = SecondPass;
+        if let Some(pass) = after_break(self.part).filter(|_| breaks) {
+            self.breaks_after_start[usize::from(self.in_batch)] += u64::from(self.started);
+            self.part = pass;
         }
+    }
+
+    fn batch(&mut self, branch: BatchBranch) {
+        match branch {
+            BatchBranch::Begins => self.in_batch = true,
+            BatchBranch::Whole | BatchBranch::Stopped => self.in_batch = false,
+            _ => {}
+        }
+        self.batches[branch as usize] += 1;
     }
 
     fn fault(&mut self, fault: Fault) {
@@ -103,9 +141,14 @@ impl Coverage {
                 }
             }
         }
-        if self.breaks_after_start == 0 {
+        if self.breaks_after_start.contains(&0) {
             gaps.push("step 3 break straight after step 1: never".to_string());
         }
+        let missed = BatchBranch::ALL
+            .iter()
+            .zip(self.batches)
+            .filter(|(_, times)| *times == 0);
+        gaps.extend(missed.map(|(branch, _)| format!("batch, {}: never", branch.text())));
         let missed = Fault::ALL
             .iter()
             .zip(self.faults)
@@ -130,8 +173,10 @@ impl Coverage {
 
     /// The counts as tables; a dash where a branch cannot be taken.
     pub fn tables(&self) -> String {
-        let mut text =
-            String::from("| Branch | First pass | Second pass | Removal |\n|---|---|---|---|\n");
+        let mut text = String::from(
+            "| Branch | First pass | Second pass | First pass in a batch | Second pass in a batch \
+             | Removal |\n|---|---|---|---|---|---|\n",
+        );
         for (&branch, counts) in Branch::ALL.iter().zip(&self.branches) {
             let cells = PARTS.into_iter().zip(counts).map(|(part, times)| {
                 match parts(branch).contains(&part) {
@@ -142,11 +187,15 @@ impl Coverage {
             let cells: Vec<String> = cells.collect();
             let _ = writeln!(text, "| {} | {} |", branch.text(), cells.join(" | "));
         }
+        let [single, in_batch] = self.breaks_after_start;
         let _ = writeln!(
             text,
-            "| step 3 break straight after step 1 | {} | - | - |",
-            self.breaks_after_start
+            "| step 3 break straight after step 1 | {single} | - | {in_batch} | - | - |"
         );
+        text.push_str("\n| Branch of a batch | Times |\n|---|---|\n");
+        for (branch, times) in BatchBranch::ALL.iter().zip(self.batches) {
+            let _ = writeln!(text, "| {} | {times} |", branch.text());
+        }
         text.push_str("\n| Fault of a state | Times |\n|---|---|\n");
         for (fault, times) in Fault::ALL.iter().zip(self.faults) {
             let _ = writeln!(text, "| {} | {times} |", fault.text());

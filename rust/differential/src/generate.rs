@@ -1,6 +1,6 @@
 //! The kinds of scripts, each aimed at some part of the paper.
 
-use second::{quotient, FRAME_PLACES, OFFERED_LIMIT, RESULT_LIMIT, TRACK_PLACES};
+use second::{quotient, FRAME_PLACES, LONGEST_DURATION, OFFERED_LIMIT, RESULT_LIMIT, TRACK_PLACES};
 
 use crate::writer::{word, Writer};
 
@@ -41,11 +41,13 @@ const RESULTS: [i64; 13] = [
 /// No track, but track 1 to whoever cuts its number to a byte.
 const PAST_A_BYTE: u32 = 257;
 
-/// The script of a seed.
+/// The script of a seed, call by call. In every other one, appends that follow each other are
+/// joined to batches, whatever it is aimed at.
 pub fn script(seed: u64) -> Vec<String> {
     let mut writer = Writer::new(seed);
     match seed % 100 {
-        0..=24 => mixed(&mut writer),
+        0..=18 => mixed(&mut writer),
+        19..=24 => batches(&mut writer),
         25..=39 => overlaps(&mut writer),
         40..=53 => sequence(&mut writer),
         54..=62 => windows(&mut writer),
@@ -59,8 +61,11 @@ pub fn script(seed: u64) -> Vec<String> {
         98 => long(&mut writer),
         _ => full(&mut writer),
     }
+    if writer.rng.percent(50) {
+        writer.join_appends();
+    }
     writer.line("state");
-    writer.lines
+    writer.calls
 }
 
 /// Every call, on buffers of all sizes.
@@ -86,6 +91,27 @@ fn overlaps(writer: &mut Writer) {
             18 => writer.remove(),
             19 => remove_shown_later(writer),
             _ => writer.report(),
+        }
+    }
+}
+
+/// Lists of frames as segments have them, often over stretches that are there already.
+fn batches(writer: &mut Writer) {
+    writer.create_some();
+    for _ in 0..writer.rng.between(2, 16) {
+        match writer.rng.between(1, 12) {
+            1..=6 => writer.batch_of_a_segment(),
+            7..=8 => {
+                let (frames, words) = (writer.rng.between(0, 64), writer.lines_enough());
+                writer.batch(words, |writer| {
+                    for _ in 0..frames {
+                        writer.append_anywhere();
+                    }
+                });
+            }
+            9 => writer.batch_of_any_size(),
+            10 => writer.line("abort"),
+            _ => writer.any_call(),
         }
     }
 }
@@ -407,7 +433,7 @@ fn poke(writer: &mut Writer) {
 /// Each call with the same chance, also with lists too short and with times out of order.
 fn every_call(writer: &mut Writer) {
     let fates = writer.rng.pick(&["", "", "", " fates=1023"]);
-    match writer.rng.between(1, 12) {
+    match writer.rng.between(1, 14) {
         1..=2 => {
             let track = writer.track();
             writer.line(format!("append {track} 100 100 100 1{fates}"));
@@ -419,6 +445,7 @@ fn every_call(writer: &mut Writer) {
         8 => writer.line("settings"),
         9..=10 => writer.report(),
         11 => writer.segment(),
+        12..=13 => writer.batch_of_any_size(),
         _ => writer.append_on(),
     }
 }
@@ -497,7 +524,8 @@ fn refusals(writer: &mut Writer) {
                     "walked 1",
                     "seek 1 0",
                     "room 1 0",
-                    "batch 0",
+                    "batch 2",
+                    "batch 1\nframe 1 0 0 100",
                     "# a comment",
                     "",
                     "append 1 0 0 100",
@@ -506,11 +534,7 @@ fn refusals(writer: &mut Writer) {
                 ]);
                 writer.line(line);
             }
-            12 => {
-                writer.line("batch 2");
-                writer.line("frame 1 0 0 100 1");
-                writer.line("frame 1 100 100 100 0");
-            }
+            12 => writer.batch_of_any_size(),
             13 => writer.line("buffer 2"),
             _ => every_call(writer),
         }
@@ -537,6 +561,9 @@ fn full(writer: &mut Writer) {
         let (track, place) = (number % tracks + 1, number / tracks);
         let time = place * step;
         writer.append(track as u32, time, time, 100, place % group == 0);
+    }
+    if writer.rng.percent(40) {
+        most_lines(writer);
     }
     let last = FRAME_PLACES as i64 / i64::from(tracks) * step;
     for _ in 0..writer.rng.between(10, 60) {
@@ -575,4 +602,17 @@ fn full(writer: &mut Writer) {
             }
         }
     }
+}
+
+/// A batch whose frames are dropped up to one, mostly the last, that takes out all of its track.
+fn most_lines(writer: &mut Writer) {
+    writer.line("abort");
+    let kept = writer.rng.pick(&[63, 63, 62, 5]);
+    writer.batch("", |writer| {
+        for place in 0..64 {
+            let flagged = place == kept;
+            let duration = if flagged { LONGEST_DURATION } else { 100 };
+            writer.append(1, 0, place, duration, flagged);
+        }
+    });
 }

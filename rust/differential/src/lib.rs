@@ -1,9 +1,10 @@
-//! Generated scripts and segments, put to two implementations of the frame buffer at once, and
-//! every answer, list and state compared.
+//! Generated scripts, segments and lists of frames, put to two implementations of the frame buffer
+//! at once, and every answer, list and state compared. A batch is compared besides with single
+//! appends of its frames.
 //!
-//! What they reached is counted: each refusal of each call, each cause, each clause of the
-//! well-formed test, each branch of the steps and of the reader of segments. A run that never
-//! reached one of them proves less than it seems to, and fails.
+//! What they reached is counted: each refusal of each call, each stop of a batch, each cause, each
+//! clause of the well-formed test, each branch of the steps and of the reader of segments. A run
+//! that never reached one of them proves less than it seems to, and fails.
 
 #![forbid(unsafe_code)]
 
@@ -13,8 +14,10 @@ mod compare;
 mod coverage;
 mod generate;
 mod rng;
+mod rows;
 mod run;
 mod segments;
+mod singles;
 mod writer;
 
 pub use answers::Answers;

@@ -1,7 +1,9 @@
-//! Compares two implementations of the frame buffer over generated scripts and segments.
+//! Compares two implementations of the frame buffer over generated scripts, segments and lists of
+//! frames.
 //!
-//! `differential [SCRIPTS [SEED [SEGMENTS]]]`; without words, as many scripts and segments as a minute
-//! and a few seconds allow with time to spare. Each of the segments has three damaged ones beside it.
+//! `differential [SCRIPTS [SEED [SEGMENTS [ROWS]]]]`; without words, as many as a minute and a few
+//! seconds allow with time to spare. Each of the segments has three damaged ones beside it, and ROWS
+//! are the lists that no script can hold.
 
 #![forbid(unsafe_code)]
 
@@ -16,20 +18,24 @@ const SCRIPTS: u64 = 10_000;
 
 const SEGMENTS: u64 = 250_000;
 
+const ROWS: u64 = 100_000;
+
 fn main() -> ExitCode {
     let mut words = env::args().skip(1).map(|word| word.parse::<u64>());
-    let (Ok(scripts), Ok(seed), Ok(segments)) = (
+    let (Ok(scripts), Ok(seed), Ok(segments), Ok(rows)) = (
         words.next().unwrap_or(Ok(SCRIPTS)),
         words.next().unwrap_or(Ok(0)),
         words.next().unwrap_or(Ok(SEGMENTS)),
+        words.next().unwrap_or(Ok(ROWS)),
     ) else {
-        eprintln!("usage: differential [SCRIPTS [SEED [SEGMENTS]]]");
+        eprintln!("usage: differential [SCRIPTS [SEED [SEGMENTS [ROWS]]]]");
         return ExitCode::FAILURE;
     };
     let plan = Plan {
         seed,
         scripts,
         segments,
+        rows,
     };
 
     let mut one: Second<Coverage> = Second::default();
@@ -45,13 +51,14 @@ fn main() -> ExitCode {
 
     println!("{}\n{}", answers.tables(), one.trace.tables());
     println!(
-        "{} scripts, {} answers, {} states, {} accounts and {} segments compared in {:.1} s, \
-         {} pokes declined",
+        "{} scripts, {} answers, {} states, {} accounts, {} segments and {} lists of rows compared \
+         in {:.1} s, {} pokes declined",
         answers.scripts,
         answers.answers,
         answers.states,
         answers.accounts,
         answers.segments,
+        answers.rows,
         start.elapsed().as_secs_f64(),
         answers.declined
     );

@@ -7,9 +7,11 @@ use script::Subject;
 use crate::answers::Answers;
 use crate::compare::{compare, Parting};
 use crate::generate::script;
+use crate::rows::compare_rows;
 use crate::segments::compare_segments;
+use crate::writer::{batch, batch_parts};
 
-/// Which scripts and segments to run.
+/// What to run.
 #[derive(Clone, Copy, Debug)]
 pub struct Plan {
     /// The first seed.
@@ -18,6 +20,8 @@ pub struct Plan {
     pub scripts: u64,
     /// How many well-made segments, one a seed, each with a few damaged ones.
     pub segments: u64,
+    /// How many lists of rows that no script can hold, one a seed.
+    pub rows: u64,
 }
 
 /// A difference between two implementations.
@@ -25,7 +29,7 @@ pub struct Plan {
 pub struct Failure {
     /// The seed of the script that showed it.
     pub seed: u64,
-    /// What is left of the script when every line that can go is gone.
+    /// What is left of the script when every call and every frame that can go is gone.
     pub script: Vec<String>,
     /// Where they part in it.
     pub parting: Box<Parting>,
@@ -34,7 +38,7 @@ pub struct Failure {
 impl fmt::Display for Failure {
     fn fmt(&self, f: &mut fmt::Formatter<'_>) -> fmt::Result {
         writeln!(f, "seed {}, shortened:", self.seed)?;
-        for line in &self.script {
+        for line in self.script.iter().flat_map(|call| call.lines()) {
             writeln!(f, "    {line}")?;
         }
         write!(f, "{}", self.parting)
@@ -42,17 +46,17 @@ impl fmt::Display for Failure {
 }
 
 impl Failure {
-    /// One that a segment shows.
-    pub(crate) fn of_segment(seed: u64, parting: Box<Parting>) -> Self {
+    /// One that a single call shows.
+    pub(crate) fn of_call(seed: u64, parting: Box<Parting>) -> Self {
         Self {
             seed,
-            script: vec![parting.line.clone()],
+            script: vec![parting.call.clone()],
             parting,
         }
     }
 }
 
-/// Puts the scripts and the segments of a plan to two implementations.
+/// Puts the scripts, the segments and the lists of rows of a plan to two implementations.
 pub fn run<A: Subject, B: Subject>(
     plan: Plan,
     one: &mut A,
@@ -60,45 +64,64 @@ pub fn run<A: Subject, B: Subject>(
 ) -> Result<Answers, Failure> {
     let mut answers = Answers::default();
     for seed in plan.seed..plan.seed + plan.scripts {
-        let lines = script(seed);
-        if let Err(parting) = compare(one, other, &lines, &mut answers) {
-            return Err(shorten(seed, lines, parting, one, other));
+        let calls = script(seed);
+        if let Err(parting) = compare(one, other, &calls, &mut answers) {
+            return Err(shorten(seed, calls, parting, one, other));
         }
     }
     let seeds = plan.seed..plan.seed + plan.segments;
     compare_segments(seeds, one, other, &mut answers)?;
+    let seeds = plan.seed..plan.seed + plan.rows;
+    compare_rows(seeds, one, other, &mut answers)?;
     Ok(answers)
 }
 
-/// Leaves lines out, many at a time and then fewer, as long as the two still part somewhere.
+/// Leaves calls out, and then frames of the batches that are left, as long as the two still part
+/// somewhere.
 fn shorten<A: Subject, B: Subject>(
     seed: u64,
     mut script: Vec<String>,
-    mut parting: Box<Parting>,
+    first: Box<Parting>,
     one: &mut A,
     other: &mut B,
 ) -> Failure {
-    script.truncate(parting.number);
-    let mut width = script.len();
-    while width > 0 {
-        let mut start = 0;
-        while start < script.len() {
-            let end = script.len().min(start + width);
+    let mut part = |script: &[String]| compare(one, other, script, &mut Answers::default()).err();
+    script.truncate(first.number);
+    let mut script = thin(script, |fewer| part(fewer).is_some());
+    for place in 0..script.len() {
+        let Some((words, frames)) = batch_parts(&script[place]) else {
+            continue;
+        };
+        let with = |frames: &[String]| {
             let mut shorter = script.clone();
-            shorter.drain(start..end);
-            match compare(one, other, &shorter, &mut Answers::default()) {
-                Ok(()) => start = end,
-                Err(still) => {
-                    shorter.truncate(still.number);
-                    (script, parting) = (shorter, still);
-                }
-            }
-        }
-        width /= 2;
+            shorter[place] = batch(frames, &words);
+            shorter
+        };
+        let frames = thin(frames, |fewer| part(&with(fewer)).is_some());
+        script = with(&frames);
     }
+    let parting = part(&script).unwrap_or(first);
     Failure {
         seed,
         script,
         parting,
     }
+}
+
+/// Leaves parts out, many at a time and then fewer, as long as the rest will do.
+fn thin<T: Clone>(mut parts: Vec<T>, mut will_do: impl FnMut(&[T]) -> bool) -> Vec<T> {
+    let mut width = parts.len();
+    while width > 0 {
+        let mut start = 0;
+        while start < parts.len() {
+            let end = parts.len().min(start + width);
+            let rest = [&parts[..start], &parts[end..]].concat();
+            match will_do(&rest) {
+                true => parts = rest,
+                false => start = end,
+            }
+        }
+        width /= 2;
+    }
+    parts
 }

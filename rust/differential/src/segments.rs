@@ -99,7 +99,7 @@ pub(crate) fn compare_segments<A: Subject, B: Subject>(
     for seed in seeds {
         let mut rng = Rng::new(seed);
         let (case, nodes) = make::make(&mut rng);
-        let part = |parting| Failure::of_segment(seed, parting);
+        let part = |parting| Failure::of_call(seed, parting);
         let whole = compare(&case, one, other).map_err(part)?;
         answers.segment(whole);
         if whole == Err(MALFORMED) {
@@ -135,7 +135,7 @@ fn compare<A: Subject, B: Subject>(
 fn parting(case: &Case, [one, other]: [String; 2]) -> Box<Parting> {
     Box::new(Parting {
         number: 1,
-        line: case.line(),
+        call: case.line(),
         one,
         other,
     })

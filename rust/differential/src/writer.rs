@@ -1,4 +1,4 @@
-//! Writing the lines of a script, with just enough memory to write calls that mean something.
+//! Writing the calls of a script, with just enough memory to write calls that mean something.
 
 use second::{quotient, LONGEST_DURATION, SECONDS_LIMIT, TRACK_PLACES};
 
@@ -8,10 +8,23 @@ use crate::segments;
 /// Durations around the usual 100.
 const DURATIONS: [u32; 9] = [100, 100, 100, 100, 1, 50, 99, 101, 400];
 
+/// Bad frames, refused 3 or 4.
+const BAD: [&str; 8] = [
+    "append 0 0 0 100 1",
+    "append 5 0 0 100 1",
+    "append 257 0 0 100 0",
+    "append 4294967295 0 0 100 1",
+    "append 1 0 0 0 1",
+    "append 1 0 0 10000001 1",
+    "append 1 1000000000001 0 100 1",
+    "append 1 0 -9223372036854775808 100 0",
+];
+
 /// A script being written.
 pub(crate) struct Writer {
     pub(crate) rng: Rng,
-    pub(crate) lines: Vec<String>,
+    /// The calls so far. A batch has the lines of its frames with it.
+    pub(crate) calls: Vec<String>,
     /// The buffer's tracks, as last created.
     pub(crate) tracks: u32,
     /// The last decode time offered on each track, and its duration.
@@ -22,14 +35,108 @@ impl Writer {
     pub(crate) fn new(seed: u64) -> Self {
         Self {
             rng: Rng::new(seed),
-            lines: Vec::new(),
+            calls: Vec::new(),
             tracks: 0,
             last: [(0, 0); TRACK_PLACES],
         }
     }
 
     pub(crate) fn line(&mut self, line: impl Into<String>) {
-        self.lines.push(line.into());
+        self.calls.push(line.into());
+    }
+
+    /// A batch of the frames that `write` appends.
+    pub(crate) fn batch(&mut self, words: &str, write: impl FnOnce(&mut Self)) {
+        let start = self.calls.len();
+        write(self);
+        let appends = self.calls.drain(start..);
+        let frames: Vec<String> = appends.filter_map(|call| frame_of(&call)).collect();
+        self.calls.push(batch(&frames, words));
+    }
+
+    /// The words for the fate list of a batch that is not to be refused.
+    pub(crate) fn lines_enough(&mut self) -> &'static str {
+        self.rng
+            .pick(&["", "", "", " fates=1088", " fates=1089", " fates=3000"])
+    }
+
+    /// A batch of any size, with lines enough or not.
+    pub(crate) fn batch_of_any_size(&mut self) {
+        let frames = self.rng.pick(&[0, 0, 0, 1, 2, 63, 64, 65, 65, 66, 200]);
+        let words = self.rng.pick(&[
+            "",
+            "",
+            "",
+            " fates=0",
+            " fates=1",
+            " fates=64",
+            " fates=1023",
+            " fates=1024",
+            " fates=1086",
+            " fates=1087",
+            " fates=1087",
+            " fates=1088",
+            " fates=5000",
+        ]);
+        self.batch(words, |writer| {
+            for _ in 0..frames {
+                writer.append_on();
+            }
+        });
+    }
+
+    /// A batch of frames that are not shown in the order in which they are decoded, as a segment has
+    /// them: on one track, or on all of them by turns. Now and then one of them is bad.
+    pub(crate) fn batch_of_a_segment(&mut self) {
+        const SHOWN: [i64; 4] = [0, 3, 1, 2]; // a picture is shown after the two that refer to it
+        let start = match self.rng.percent(40) {
+            true => self.last[0].0 + self.last[0].1,
+            false => self.instant(),
+        };
+        let tracks = match self.rng.percent(60) {
+            true => vec![self.track()],
+            false => (1..=self.tracks).collect(),
+        };
+        let frames = self.rng.pick(&[1, 4, 8, 12, 25, 60, 64]);
+        let group = self.rng.pick(&[1, 4, 8, 100]);
+        let bad = self.rng.pick(&[-1, -1, -1, 0, 1, 3, 7, 40]);
+        let words = self.lines_enough();
+        self.batch(words, |writer| {
+            for number in 0..frames {
+                if number == bad {
+                    let bad = writer.rng.pick(&BAD);
+                    writer.line(bad);
+                    continue;
+                }
+                let (turn, place) = (number as usize % tracks.len(), number / tracks.len() as i64);
+                let shown = place - place % 4 + SHOWN[place as usize % 4];
+                let (pts, dts) = (start + 100 * shown, start + 100 * place);
+                writer.append(tracks[turn], pts, dts, 100, place % group == 0);
+            }
+        });
+    }
+
+    /// Joins appends that follow each other to batches.
+    pub(crate) fn join_appends(&mut self) {
+        let mut calls = std::mem::take(&mut self.calls).into_iter().peekable();
+        while let Some(call) = calls.next() {
+            let first = frame_of(&call).filter(|_| self.rng.percent(80));
+            let Some(first) = first else {
+                self.calls.push(call);
+                continue;
+            };
+            let most = self.rng.pick(&[1, 2, 3, 4, 8, 20, 64, 64]);
+            let mut frames = vec![first];
+            while frames.len() < most {
+                let Some(frame) = calls.peek().and_then(|call| frame_of(call)) else {
+                    break;
+                };
+                frames.push(frame);
+                calls.next();
+            }
+            let words = self.lines_enough();
+            self.calls.push(batch(&frames, words));
+        }
     }
 
     /// A buffer of so many tracks, of either kind.
@@ -248,4 +355,28 @@ pub(crate) fn word(double: f64) -> String {
         return "inf".to_string();
     }
     script::bits(double)
+}
+
+/// The line of a batch's frame that an append stands for, unless it says how long its list is.
+fn frame_of(call: &str) -> Option<String> {
+    let frame = call.strip_prefix("append ")?;
+    (!frame.contains('=')).then(|| format!("frame {frame}"))
+}
+
+/// A batch as a script has it: its frames, and the words after their count.
+pub(crate) fn batch(frames: &[String], words: &str) -> String {
+    let mut call = format!("batch {}{words}", frames.len());
+    for frame in frames {
+        call.push('\n');
+        call.push_str(frame);
+    }
+    call
+}
+
+/// The words after the count of a batch, and its frames.
+pub(crate) fn batch_parts(call: &str) -> Option<(String, Vec<String>)> {
+    let mut lines = call.lines();
+    let words = lines.next()?.strip_prefix("batch ")?;
+    let words = words.find(' ').map_or("", |end| &words[end..]);
+    Some((words.to_string(), lines.map(str::to_string).collect()))
 }

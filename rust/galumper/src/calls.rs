@@ -212,7 +212,7 @@ pub(crate) fn counted(answer: Answer) -> Result<usize, Refusal> {
     done(answer.refusal).map(|()| answer.count)
 }
 
-fn done(refusal: u32) -> Result<(), Refusal> {
+pub(crate) fn done(refusal: u32) -> Result<(), Refusal> {
     match refusal {
         0 => Ok(()),
         number => Err(Refusal::answered(number)),

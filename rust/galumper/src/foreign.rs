@@ -7,7 +7,7 @@ use crate::names::Kind;
 use crate::segment::{ListedFrame, SegmentTrack};
 
 /// The number of the layout and of the functions below; the library has its own to compare.
-pub const ABI: u32 = 3;
+pub const ABI: u32 = 4;
 
 /// What a call answers: its refusal, 0 for none, and how many lines, ranges or frames it wrote.
 #[repr(C)]
@@ -21,6 +21,23 @@ pub struct Answer {
 pub struct Answered {
     pub head: Head,
     pub answer: Answer,
+}
+
+/// What appending a batch answers: its refusal, 0 for none; that of the frame that stopped it, 0 for
+/// none; how many frames were accepted, and how many lines were written.
+#[repr(C)]
+pub struct BatchAnswer {
+    pub refusal: u32,
+    pub stop: u32,
+    pub accepted: usize,
+    pub count: usize,
+}
+
+/// What appending a batch hands back.
+#[repr(C)]
+pub struct Batched {
+    pub head: Head,
+    pub answer: BatchAnswer,
 }
 
 /// What reading the settings answers.
@@ -50,6 +67,15 @@ extern "C" {
         fates: *mut Fate,
         lines: usize,
     ) -> Answered;
+    pub fn galumper_lent_append_batch(
+        head: Head,
+        frames: *const ListedFrame,
+        nframes: usize,
+        times: &mut Times,
+        tags: &mut Tags,
+        fates: *mut Fate,
+        lines: usize,
+    ) -> Batched;
     pub fn galumper_lent_remove(
         head: Head,
         start: f64,

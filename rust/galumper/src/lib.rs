@@ -22,6 +22,7 @@
 //! # }
 //! ```
 
+mod batch;
 mod buffer;
 mod calls;
 mod foreign;
@@ -29,6 +30,7 @@ mod lists;
 mod names;
 mod segment;
 
+pub use batch::{Batch, BATCH, BATCH_FATES};
 pub use buffer::{
     Buffer, Group, Head, Offered, Setting, Settings, Tags, Times, Track, PLACES, SIZE, TRACKS,
 };

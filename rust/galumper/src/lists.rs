@@ -3,7 +3,7 @@
 
 use crate::names::Cause;
 
-/// The lines that a fate list needs.
+/// The lines that the fate list of an append or a removal needs.
 pub const FATES: usize = 1024;
 
 /// So many places of a range list are always enough, for a track's ranges (never more than its

@@ -10,7 +10,7 @@ use std::fmt;
 pub enum Refusal {
     /// The buffer is not well-formed.
     IllFormed = 1,
-    /// A fate list of fewer than 1,024 lines.
+    /// A fate list of fewer than 1,024 lines, or 1,088 for a batch.
     ShortFates = 2,
     /// A track that the buffer does not have.
     NoTrack = 3,
@@ -34,6 +34,8 @@ pub enum Refusal {
     /// A segment with a box that overruns, is too short, has size 0 or an unknown version, or with
     /// a movie fragment, a track fragment's header or a decode time missing, doubled or after a run.
     Malformed = 12,
+    /// What is lent has a size that the call does not take: a batch of more than 64 frames.
+    LentSize = 13,
 }
 
 impl Refusal {
@@ -51,6 +53,7 @@ impl Refusal {
         Self::ShortList,
         Self::Kinds,
         Self::Malformed,
+        Self::LentSize,
     ];
 
     /// Its number, which is the same in every language.
@@ -69,7 +72,7 @@ impl fmt::Display for Refusal {
     fn fmt(&self, f: &mut fmt::Formatter<'_>) -> fmt::Result {
         f.pad(match self {
             Self::IllFormed => "the buffer is not well-formed",
-            Self::ShortFates => "the fate list has fewer than 1,024 lines",
+            Self::ShortFates => "the fate list has too few lines",
             Self::NoTrack => "the buffer has no such track",
             Self::FrameLimits => "a frame or timescale is outside the limits",
             Self::Seconds => "the seconds do not convert to microseconds",
@@ -80,6 +83,7 @@ impl fmt::Display for Refusal {
             Self::ShortList => "the list has too few places",
             Self::Kinds => "no track, more than four, or an unknown kind",
             Self::Malformed => "the segment is not well-formed",
+            Self::LentSize => "what is lent has a size that the call does not take",
         })
     }
 }

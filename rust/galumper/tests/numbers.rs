@@ -2,7 +2,8 @@
 //! down to the last bit.
 
 use galumper::{
-    Buffer, Cause, Fate, Kind, Mode, Offered, Range, Refusal, FATES, PLACES, RANGES, SIZE,
+    Buffer, Cause, Fate, Kind, ListedFrame, Mode, Offered, Range, Refusal, BATCH, FATES, PLACES,
+    RANGES, SIZE,
 };
 
 const FRAME: Offered = Offered {
@@ -44,6 +45,10 @@ fn refused(spoilt: &Buffer) {
     let ill = Refusal::IllFormed;
     let mut buffer = Box::new(spoilt.clone());
     assert_eq!(buffer.append(FRAME, &mut fates), Err(ill));
+    let rows = [ListedFrame::default(); BATCH + 1];
+    for rows in [&rows[..], &[]] {
+        assert_eq!(buffer.append_batch(rows, &mut fates), Err(ill));
+    }
     assert_eq!(buffer.remove(0.0, 1.0, &mut fates), Err(ill));
     assert_eq!(buffer.abort(), Err(ill));
     assert_eq!(buffer.set_mode(Mode::Segments), Err(ill));

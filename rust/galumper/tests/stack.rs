@@ -3,7 +3,8 @@
 use std::thread;
 
 use galumper::{
-    Buffer, Fate, Kind, ListedFrame, Mode, Offered, Range, SegmentTrack, FATES, PLACES, RANGES,
+    Buffer, Fate, Kind, ListedFrame, Mode, Offered, Range, SegmentTrack, BATCH, BATCH_FATES, FATES,
+    PLACES, RANGES,
 };
 
 /// What a thread needs for any call, with the few kilobytes of its own.
@@ -31,12 +32,28 @@ fn full() -> Box<Buffer> {
     for n in 0..PLACES {
         assert_eq!(buffer.append(frame(n), &mut fates), Ok(0));
     }
-    buffer.head.last = u32::MAX - 1;
+    buffer.head.last = u32::MAX - 1 - BATCH as u32;
     for place in 0..PLACES {
         buffer.times[place][0] = (place * 101 % 256) as i64 * 40_000;
         buffer.tags[place][3] = (place * 613 % PLACES) as u32 * 4096 + 1;
     }
     buffer
+}
+
+/// A batch of frames that take the place of others.
+fn rows() -> Vec<ListedFrame> {
+    let row = |n| {
+        let frame = frame(n);
+        ListedFrame {
+            track: frame.track.into(),
+            pts: frame.pts,
+            dts: frame.dts,
+            duration: frame.duration.into(),
+            flagged: 1,
+            size: 0,
+        }
+    };
+    (500..500 + BATCH).map(row).collect()
 }
 
 /// A segment with a run of 1,024 samples, all by default.
@@ -70,6 +87,10 @@ fn every_call_on_a_small_stack() {
         assert_eq!(buffer.abort(), Ok(()));
         assert_eq!(buffer.append(frame(500), &mut fates), Ok(1));
         assert_eq!(buffer.remove(0.0, 1.0, &mut fates), Ok(100));
+        let mut fates = vec![Fate::default(); BATCH_FATES];
+        let batch = buffer.append_batch(&rows(), &mut fates);
+        let batch = batch.expect("a call that is not refused");
+        assert_eq!((batch.accepted, batch.stop), (BATCH, None));
         assert!(galumper::create(&KINDS).is_ok());
         let mut frames = vec![ListedFrame::default(); 1024];
         assert_eq!(galumper::list_segment(OF, SEGMENT, &mut frames), Ok(1024));

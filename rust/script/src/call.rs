@@ -1,8 +1,8 @@
-//! Reading a line of a script.
+//! Reading a call of a script.
 
 use std::str::FromStr;
 
-use second::{Mode, Offered, SegmentTrack, FRAME_PLACES};
+use second::{Mode, Offered, SegmentTrack, BATCH_LINES, FRAME_PLACES};
 
 use crate::poke::Poke;
 
@@ -13,6 +13,8 @@ pub enum Call {
     Create(Vec<u32>),
     /// Appends a frame.
     Append(Offered, usize),
+    /// Appends a list of frames.
+    Batch(Vec<Offered>, usize),
     /// Removes a stretch of time.
     Remove(f64, f64, usize),
     /// Aborts.
@@ -43,22 +45,47 @@ pub enum Call {
     Restore,
     /// Writes a field of the state.
     Poke(Poke),
-    /// Not built, but the lines of its frames must be passed over.
-    Batch(usize),
 }
 
 /// The lengths of lent lists, as `name=K` at the end of a call sets them.
 struct Lengths {
-    fates: usize,
+    fates: Option<usize>,
     places: usize,
+}
+
+impl Lengths {
+    /// The lines of the fate list; where none are named, as many as every append takes.
+    fn lines(&self) -> usize {
+        self.fates.unwrap_or(FRAME_PLACES)
+    }
 }
 
 /// No list that a script lends is longer than this; it only keeps a wild number from being lent.
 const LONGEST_LIST: usize = 1 << 20;
 
 impl Call {
-    /// Reads a line; nothing if it is not a call of the paper's.
-    pub fn read(line: &str) -> Option<Self> {
+    /// Reads a call, a batch with the lines of its frames; nothing if it is not one of the paper's.
+    pub fn read(call: &str) -> Option<Self> {
+        match call.starts_with("batch ") {
+            true => Self::read_batch(call),
+            false => Self::read_line(call),
+        }
+    }
+
+    /// A batch, whose frames must be as many as its first line says.
+    fn read_batch(call: &str) -> Option<Self> {
+        let mut lines = call.lines();
+        let mut words: Vec<&str> = lines.next()?.split(' ').collect();
+        let lengths = lengths(&mut words)?;
+        let ["batch", count] = *words else {
+            return None;
+        };
+        let frames: Vec<Offered> = lines.map(frame).collect::<Option<_>>()?;
+        let whole_batch = frames.len() == whole(count)?;
+        whole_batch.then_some(Self::Batch(frames, lengths.fates.unwrap_or(BATCH_LINES)))
+    }
+
+    fn read_line(line: &str) -> Option<Self> {
         let mut words: Vec<&str> = line.split(' ').collect();
         let lengths = lengths(&mut words)?;
         Some(match *words {
@@ -68,17 +95,8 @@ impl Call {
                     .map(|kind| whole(kind))
                     .collect::<Option<_>>()?,
             ),
-            ["append", track, pts, dts, duration, flagged] => Self::Append(
-                Offered {
-                    track: whole(track)?,
-                    pts: whole(pts)?,
-                    dts: whole(dts)?,
-                    duration: whole(duration)?,
-                    flagged: flag(flagged)?,
-                },
-                lengths.fates,
-            ),
-            ["remove", start, end] => Self::Remove(seconds(start)?, seconds(end)?, lengths.fates),
+            ["append", ref frame @ ..] => Self::Append(offered(frame)?, lengths.lines()),
+            ["remove", start, end] => Self::Remove(seconds(start)?, seconds(end)?, lengths.lines()),
             ["abort"] => Self::Abort,
             ["mode", word] => Self::Mode(mode(word)?),
             ["offset", time] => Self::Offset(seconds(time)?),
@@ -105,7 +123,6 @@ impl Call {
             ["save"] => Self::Save,
             ["restore"] => Self::Restore,
             ["poke", ref words @ ..] => Self::Poke(Poke::read(words)?),
-            ["batch", count] => Self::Batch(whole(count)?),
             _ => return None,
         })
     }
@@ -114,13 +131,13 @@ impl Call {
 /// Takes the words `name=K` off the end.
 fn lengths(words: &mut Vec<&str>) -> Option<Lengths> {
     let mut lengths = Lengths {
-        fates: FRAME_PLACES,
+        fates: None,
         places: 4096,
     };
     while let Some((name, count)) = words.last().and_then(|word| word.split_once('=')) {
         let count = whole(count).filter(|&count| count <= LONGEST_LIST)?;
         match name {
-            "fates" => lengths.fates = count,
+            "fates" => lengths.fates = Some(count),
             "places" => lengths.places = count,
             "places2" | "buffer" => {} // lent to calls that are not built
             _ => return None,
@@ -128,6 +145,29 @@ fn lengths(words: &mut Vec<&str>) -> Option<Lengths> {
         words.pop();
     }
     Some(lengths)
+}
+
+/// A frame of a batch by its line.
+fn frame(line: &str) -> Option<Offered> {
+    let words: Vec<&str> = line.split(' ').collect();
+    let ["frame", ref frame @ ..] = *words else {
+        return None;
+    };
+    offered(frame)
+}
+
+/// A frame as offered, by its words.
+fn offered(words: &[&str]) -> Option<Offered> {
+    let &[track, pts, dts, duration, flagged] = words else {
+        return None;
+    };
+    Some(Offered {
+        track: whole(track)?,
+        pts: whole(pts)?,
+        dts: whole(dts)?,
+        duration: whole(duration)?,
+        flagged: flag(flagged)?,
+    })
 }
 
 /// A whole number in decimal.
@@ -253,6 +293,41 @@ mod tests {
     }
 
     #[test]
+    fn a_batch_with_its_frames() {
+        let frame = Offered {
+            track: 1,
+            pts: -5,
+            dts: 7,
+            duration: 100,
+            flagged: true,
+        };
+        let line = "frame 1 -5 7 100 1";
+        let read = Call::read(&format!("batch 2 fates=9\n{line}\n{line}"));
+        assert_eq!(read, Some(Call::Batch(vec![frame; 2], 9)));
+        assert_eq!(Call::read("batch 0"), Some(Call::Batch(vec![], 1088)));
+        let many = format!("batch 100{}", format!("\n{line}").repeat(100));
+        assert_eq!(Call::read(&many), Some(Call::Batch(vec![frame; 100], 1088)));
+        for bad in [
+            "batch".to_string(),
+            "batch -1".to_string(),
+            "batch 0 0".to_string(),
+            "batch 0 fate=1".to_string(),
+            "batch 1".to_string(),
+            format!("batch 2\n{line}"),
+            format!("batch 1\n{line}\n{line}"),
+            format!("batch 1\n{line} fates=9"),
+            "batch 1\nframe 1 0 0 100".to_string(),
+            "batch 1\nframe 1 0 0 100 2".to_string(),
+            "batch 1\nframe 1 0 0 -1 1".to_string(),
+            "batch 1\nframe 1 0 0 100 1 0".to_string(),
+            "batch 1\nappend 1 0 0 100 1".to_string(),
+            line.to_string(),
+        ] {
+            assert_eq!(Call::read(&bad), None, "{bad}");
+        }
+    }
+
+    #[test]
     fn what_is_not_a_call() {
         for bad in [
             "segment 1 2 3 4 5 6",
@@ -261,6 +336,7 @@ mod tests {
             "seek 1 0",
             "append 1 0 0 100",
             "append 1 0 0 100 2",
+            "append 1 0 0 100 1 0",
             "append 1 +0 0 100 1",
             "append 1 0 0 -1 1",
             "mode both",
@@ -270,6 +346,7 @@ mod tests {
             "poke frame 0 p 0",
             "poke group-start unsettled",
             " state",
+            "abort\nabort",
         ] {
             assert_eq!(Call::read(bad), None, "{bad}");
         }

@@ -1,5 +1,6 @@
 //! Scripts of calls in the line protocol of the program `replay`, put to any implementation of
-//! the frame buffer: one call a line, one answer a line.
+//! the frame buffer: one call a line, one answer a line. Only a batch has more lines, one for each
+//! of its frames.
 //!
 //! An implementation takes part by its [`Subject`]. The words of the paper that both sides need
 //! (a frame as offered, a mode, a segment's track, a whole state to look at) are those of the crate
@@ -7,7 +8,9 @@
 
 #![forbid(unsafe_code)]
 
+mod batch;
 mod call;
+mod calls;
 mod lent;
 mod place;
 mod poke;
@@ -16,7 +19,9 @@ mod proved;
 mod session;
 mod subject;
 
+pub use batch::{row_of, Batch};
 pub use call::Call;
+pub use calls::{calls, Calls};
 pub use place::Place;
 pub use poke::{FrameField, Poke, TrackField};
 pub use print::{bits, state_line};

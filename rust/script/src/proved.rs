@@ -8,6 +8,7 @@ use second::{
     WindowEnd, TRACK_PLACES,
 };
 
+use crate::batch::Batch;
 use crate::poke::{FrameField, Poke, TrackField};
 use crate::subject::{Declined, Subject};
 
@@ -56,6 +57,20 @@ impl Subject for Proved {
             dts: offered.dts,
         };
         numbered(buffer.append(offered, fates))
+    }
+
+    fn append_batch(
+        &mut self,
+        buffer: &mut Self::State,
+        frames: &[ListedFrame],
+        fates: &mut [Fate],
+    ) -> Result<Batch, u32> {
+        let batch = numbered(buffer.append_batch(frames, fates))?;
+        Ok(Batch {
+            accepted: batch.accepted,
+            stop: batch.stop.map(Refusal::number),
+            lines: batch.lines,
+        })
     }
 
     fn remove(

@@ -2,7 +2,9 @@
 
 use second::{Reading, WindowEnd};
 
+use crate::batch::{row_of, Batch};
 use crate::call::Call;
+use crate::calls::is_silent;
 use crate::lent::Lent;
 use crate::place::Place;
 use crate::print::{bits, state_line};
@@ -22,8 +24,6 @@ pub struct Session<'a, S: Subject> {
     fates: Lent<S::Fate>,
     ranges: Lent<S::Stretch>,
     rows: Lent<S::Row>,
-    /// Lines of a batch still to be passed over.
-    batch: usize,
 }
 
 impl<'a, S: Subject> Session<'a, S> {
@@ -37,16 +37,15 @@ impl<'a, S: Subject> Session<'a, S> {
             fates: Lent::new(Place::of(FATE_MARK)),
             ranges: Lent::new(Place::of(STRETCH_MARK)),
             rows: Lent::new(Place::of(ROW_MARK)),
-            batch: 0,
         }
     }
 
-    /// The answer to a line, if it has one.
-    pub fn answer(&mut self, line: &str) -> Option<String> {
-        if line.is_empty() || line.starts_with('#') || self.is_of_batch(line) {
+    /// The answer to a call, as [`calls`](crate::calls) has it; none to a blank line and a comment.
+    pub fn answer(&mut self, call: &str) -> Option<String> {
+        if is_silent(call) {
             return None;
         }
-        let answer = match Call::read(line) {
+        let answer = match Call::read(call) {
             Some(call) => self.carry_out(call).unwrap_or_else(|| "none".to_string()),
             None => "unknown".to_string(),
         };
@@ -74,12 +73,6 @@ impl<'a, S: Subject> Session<'a, S> {
         state.is_some_and(|state| self.subject.read_settings(state).is_ok())
     }
 
-    fn is_of_batch(&mut self, line: &str) -> bool {
-        let is = self.batch > 0 && line.starts_with("frame");
-        self.batch = if is { self.batch - 1 } else { 0 };
-        is
-    }
-
     /// Makes a call; nothing if it needs a state and there is none.
     fn carry_out(&mut self, call: Call) -> Option<String> {
         let subject = &mut *self.subject;
@@ -89,6 +82,13 @@ impl<'a, S: Subject> Session<'a, S> {
             Call::Append(offered, length) => {
                 let result = subject.append(slot.as_mut()?, &offered, self.fates.lend(length));
                 self.fates.answer(result, "fates", fate)
+            }
+            Call::Batch(frames, length) => {
+                let rows: Vec<S::Row> = frames.iter().map(|f| Place::of(row_of(f))).collect();
+                let result = subject.append_batch(slot.as_mut()?, &rows, self.fates.lend(length));
+                let words = result.map_or(String::new(), |batch| batch_words(&batch));
+                let lines = result.map(|batch| batch.lines);
+                self.fates.answer(lines, &words, fate)
             }
             Call::Remove(start, end, length) => {
                 let result = subject.remove(slot.as_mut()?, start, end, self.fates.lend(length));
@@ -130,10 +130,6 @@ impl<'a, S: Subject> Session<'a, S> {
                 Ok(()) => done(Ok(())),
                 Err(Declined) => "declined".to_string(),
             },
-            Call::Batch(frames) => {
-                self.batch = frames;
-                "unknown".to_string()
-            }
         })
     }
 }
@@ -160,6 +156,12 @@ fn settings(result: Result<Reading, u32>) -> String {
     }
 }
 
+/// What stands before the fate lines of a batch.
+fn batch_words(batch: &Batch) -> String {
+    let (accepted, stop) = (batch.accepted, batch.stop.unwrap_or(0));
+    format!("batch {accepted} {stop} fates")
+}
+
 fn fate(line: &impl Place<u32, 2>) -> String {
     let [number, cause] = line.numbers();
     format!("({number},{cause})")
@@ -178,6 +180,7 @@ fn row(row: &impl Place<i64, 6>) -> String {
 #[cfg(test)]
 mod tests {
     use super::*;
+    use crate::calls::calls;
     use crate::proved::Proved;
     use crate::subject::Second;
 
@@ -187,8 +190,8 @@ mod tests {
 
     fn answers_of<S: Subject>(subject: &mut S, script: &str) -> Vec<String> {
         let mut session = Session::new(subject);
-        let lines = script.lines();
-        lines.filter_map(|line| session.answer(line)).collect()
+        let calls = calls(script.lines());
+        calls.filter_map(|call| session.answer(&call)).collect()
     }
 
     #[test]
@@ -232,10 +235,41 @@ mod tests {
     }
 
     #[test]
+    fn batches() {
+        let script = "batch 0\ncreate 0\n\nbatch 2\n# a comment\nframe 1 0 0 1 0\n\n\
+                      frame 1 1 1 1 1\nbatch 3\nframe 1 2 2 1 0\nframe 1 3 3 0 0\n\
+                      frame 1 3 3 1 0\nbatch 0\nbatch 0 fates=1087";
+        let wanted = [
+            "none",
+            "ok",
+            "ok batch 2 0 fates (1,3)",
+            "ok batch 1 4 fates",
+            "ok batch 0 0 fates",
+            "refused 2",
+        ];
+        assert_eq!(answers(script), wanted);
+        assert_eq!(answers_of(&mut Proved, script), wanted);
+    }
+
+    #[test]
+    fn a_batch_of_65() {
+        let script = format!("create 0\nbatch 65{}", "\nframe 1 0 0 1 1".repeat(65));
+        assert_eq!(answers(&script), ["ok", "refused 13"]);
+    }
+
+    #[test]
+    fn batches_that_cannot_be_read() {
+        let script = "create 0\nbatch 2\nframe 1 0 0 1 1\nabort\nbatch 1\nframe 1 0 0 1 2\n\
+                      batch 1 fate=0\nframe 1 0 0 1 1\nframe 1 0 0 1 1\nbatch 1 fates=9";
+        let wanted = [
+            "ok", "unknown", "ok", "unknown", "unknown", "unknown", "unknown",
+        ];
+        assert_eq!(answers(script), wanted);
+    }
+
+    #[test]
     fn calls_that_are_not_built() {
-        let script = "create 0\n\n# a comment\nbatch 2\nframe 1 0 0 1 1\nframe 1 1 1 1 0\nabort";
-        assert_eq!(answers(script), ["ok", "unknown", "ok"]);
-        assert_eq!(answers("walked 1\nframe 1 0 0 1 1"), ["unknown", "unknown"]);
+        assert_eq!(answers("walked 1\nseek 1 0"), ["unknown", "unknown"]);
     }
 
     #[test]

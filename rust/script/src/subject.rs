@@ -7,6 +7,7 @@ use second::{
     FRAME_PLACES, TRACK_PLACES,
 };
 
+use crate::batch::Batch;
 use crate::place::Place;
 use crate::poke::{FrameField, Poke, TrackField};
 
@@ -19,8 +20,8 @@ pub trait Subject {
     type Fate: Place<u32, 2>;
     /// A place of the range lists that it is lent.
     type Stretch: Place<i64, 2>;
-    /// A place of the frame lists that it is lent: track, presentation time, decode time, duration,
-    /// flag, size.
+    /// A place of the frame lists that it is lent, to be read or to be written: track, presentation
+    /// time, decode time, duration, flag, size.
     type Row: Place<i64, 6>;
 
     /// Creates a buffer.
@@ -32,6 +33,13 @@ pub trait Subject {
         offered: &Offered,
         fates: &mut [Self::Fate],
     ) -> Result<usize, u32>;
+    /// Appends a list of frames.
+    fn append_batch(
+        &mut self,
+        state: &mut Self::State,
+        frames: &[Self::Row],
+        fates: &mut [Self::Fate],
+    ) -> Result<Batch, u32>;
     /// Removes a stretch of time.
     fn remove(
         &mut self,
@@ -122,6 +130,21 @@ impl<T: Trace> Subject for Second<T> {
             fates,
             &mut self.trace,
         ))
+    }
+
+    fn append_batch(
+        &mut self,
+        state: &mut State,
+        frames: &[Row],
+        fates: &mut [Fate],
+    ) -> Result<Batch, u32> {
+        let batch = second::append_batch_traced(state, frames, fates, &mut self.trace);
+        let batch = numbered(batch)?;
+        Ok(Batch {
+            accepted: batch.accepted,
+            stop: batch.stop.map(Refusal::number),
+            lines: batch.lines,
+        })
     }
 
     fn remove(

@@ -6,7 +6,7 @@
 use std::path::{Path, PathBuf};
 use std::{env, fs};
 
-use script::{Proved, Second, Session, Subject};
+use script::{calls, Proved, Second, Session, Subject};
 
 /// The scripts of the folder, in order of name.
 fn scripts() -> Vec<PathBuf> {
@@ -32,11 +32,11 @@ fn compare<S: Subject>(path: &Path, subject: &mut S) -> usize {
     let mut wanted = wanted.lines();
     let mut session = Session::new(subject);
     let mut count = 0;
-    for (number, line) in (1..).zip(script.lines()) {
-        if let Some(answer) = session.answer(line) {
-            let wanted = wanted.next();
-            assert_eq!(Some(answer.as_str()), wanted, "{path:?}:{number}: {line}");
+    for call in calls(script.lines()) {
+        if let Some(answer) = session.answer(&call) {
             count += 1;
+            let wanted = wanted.next();
+            assert_eq!(Some(answer.as_str()), wanted, "{path:?}, {count}: {call}");
         }
     }
     assert_eq!(wanted.next(), None, "{path:?}: an answer too many");

@@ -6,9 +6,9 @@ use crate::numbers::{frame_duration, offered_time, quotient, result_time};
 use crate::refusal::{Cause, Fate, Refusal};
 use crate::settings::Seconds;
 use crate::state::{Frame, Head, Maybe, Mode, State, Track, FRAME_PLACES};
-use crate::store::{check_fates, take_out};
-use crate::trace::{Branch, Trace};
-use crate::well_formed::well_formed;
+use crate::store::{check_fates, take_out, Latest};
+use crate::trace::{BatchBranch, Branch, Trace};
+use crate::well_formed::check_traced;
 
 /// A frame as it is offered.
 #[derive(Clone, Copy, Debug, PartialEq, Eq)]
@@ -37,12 +37,22 @@ pub fn append_traced<T: Trace>(
     fates: &mut [Fate],
     trace: &mut T,
 ) -> Result<usize, Refusal> {
-    // Refusals 1, 2, 3, 4, 9.
-    if let Err(fault) = well_formed(state) {
-        trace.fault(fault);
-        return Err(Refusal::IllFormed);
-    }
-    check_fates(fates)?;
+    check_traced(state, trace)?;
+    check_fates(fates, FRAME_PLACES)?;
+    append_tested(state, offered, &mut Latest::unknown(), fates, trace)
+}
+
+/// The append on a state that is well-formed, with lines enough for all that it can lose: so much
+/// is asked once for a whole batch of frames. `latest` is what is known of the tracks' frames, and
+/// is kept true.
+pub(crate) fn append_tested<T: Trace>(
+    state: &mut State,
+    offered: &Offered,
+    latest: &mut Latest,
+    fates: &mut [Fate],
+    trace: &mut T,
+) -> Result<usize, Refusal> {
+    // Refusals 3, 4, 9.
     let index = state.head.track_index(offered.track)?;
     check_offered(offered)?;
     let number = state.head.last_number.checked_add(1);
@@ -60,9 +70,11 @@ pub fn append_traced<T: Trace>(
     }
     // Steps 7 to 9, once refusal 8 is out of the way.
     let taken = overlapped(&head.tracks[index], &frame, trace);
-    check_room(state, &frame, &taken, trace)?;
-    let count = take_overlapped(state, &frame, &taken, fates, trace);
+    let places = searched(state, frame.track, &taken, latest, trace);
+    check_room(state, places.clone(), &taken, trace)?;
+    let count = take_overlapped(state, &frame, places, &taken, fates, trace);
     store(state, frame, trace);
+    latest.note(&frame);
     settle(&mut head, index, &frame, trace);
     state.head = head;
     Ok(count)
@@ -209,17 +221,36 @@ fn overlapped<T: Trace>(track: &Track, frame: &Frame, trace: &mut T) -> Range<i6
     start..frame.end()
 }
 
+/// The places to be searched for frames in the stretch: the track's, or none where it is plain that
+/// no frame is in it.
+fn searched<T: Trace>(
+    state: &State,
+    track: u32,
+    taken: &Range<i64>,
+    latest: &Latest,
+    trace: &mut T,
+) -> Range<usize> {
+    if taken.is_empty() {
+        return 0..0;
+    }
+    if latest.precedes(track, taken) {
+        trace.batch(BatchBranch::Beyond);
+        return 0..0;
+    }
+    state.places_of(track)
+}
+
 /// Refusal 8: as any frame taken frees a place, only a full store of which none is taken.
 fn check_room<T: Trace>(
     state: &State,
-    frame: &Frame,
+    places: Range<usize>,
     taken: &Range<i64>,
     trace: &mut T,
 ) -> Result<(), Refusal> {
     if state.frame_count < FRAME_PLACES {
         return Ok(());
     }
-    let olds = &state.frames[state.places_of(frame.track)];
+    let olds = &state.frames[places];
     if !olds.iter().any(|old| taken.contains(&old.pts)) {
         trace.reach(Branch::Full);
         return Err(Refusal::Full);
@@ -228,15 +259,15 @@ fn check_room<T: Trace>(
     Ok(())
 }
 
-/// Steps 7 and 8: takes the overlapped frames out, and those that follow them.
+/// Steps 7 and 8: takes the overlapped frames out of some places, and those that follow them.
 fn take_overlapped<T: Trace>(
     state: &mut State,
     frame: &Frame,
+    places: Range<usize>,
     taken: &Range<i64>,
     fates: &mut [Fate],
     trace: &mut T,
 ) -> usize {
-    let places = state.places_of(frame.track);
     let mut count = 0;
     let kept = take_out(
         &mut state.frames[places.clone()],

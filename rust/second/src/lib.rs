@@ -11,6 +11,7 @@
 #![forbid(unsafe_code)]
 
 mod append;
+mod batch;
 mod named;
 mod numbers;
 mod ranges;
@@ -24,6 +25,7 @@ mod trace;
 mod well_formed;
 
 pub use append::{append, append_traced, Offered};
+pub use batch::{append_batch, append_batch_traced, Batch, BATCH_FRAMES, BATCH_LINES};
 pub use numbers::{micros, quotient, LONGEST_DURATION, OFFERED_LIMIT, RESULT_LIMIT, SECONDS_LIMIT};
 pub use ranges::{common_ranges, track_ranges, Stretch};
 pub use refusal::{Cause, Fate, Refusal};
@@ -34,5 +36,5 @@ pub use settings::{
     Settings, WindowEnd,
 };
 pub use state::{create, Frame, Head, Maybe, Mode, State, Track, FRAME_PLACES, TRACK_PLACES};
-pub use trace::{Branch, Framing, Parent, SegmentBranch, Trace};
+pub use trace::{BatchBranch, Branch, Framing, Parent, SegmentBranch, Trace};
 pub use well_formed::{well_formed, Fault};

@@ -5,7 +5,7 @@
 pub enum Refusal {
     /// The state handed in is not well-formed.
     IllFormed = 1,
-    /// The fate list has under 1,024 lines.
+    /// The fate list has under 1,024 lines, or under 1,088 for a batch.
     ShortFates = 2,
     /// The track number is not one of the buffer's.
     UnknownTrack = 3,
@@ -27,6 +27,8 @@ pub enum Refusal {
     Creation = 11,
     /// A segment whose boxes are malformed, or one of them missing, doubled or after a run.
     Malformed = 12,
+    /// What is lent has a size that the call does not take: a list of over 64 frames.
+    LentSize = 13,
 }
 
 impl Refusal {

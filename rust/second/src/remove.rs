@@ -2,10 +2,10 @@
 
 use crate::refusal::{Cause, Fate, Refusal};
 use crate::settings::{End, Seconds};
-use crate::state::{Frame, Maybe, Mode, State};
+use crate::state::{Frame, Maybe, Mode, State, FRAME_PLACES};
 use crate::store::{check_fates, take_out};
 use crate::trace::{Branch, Trace};
-use crate::well_formed::{check, well_formed};
+use crate::well_formed::{check, check_traced};
 
 /// Removes the frames presented from `start` up to the first random access point at or after
 /// `end`, track by track, and those that follow them; gives the count of fate lines.
@@ -26,11 +26,8 @@ pub fn remove_traced<T: Trace>(
     fates: &mut [Fate],
     trace: &mut T,
 ) -> Result<usize, Refusal> {
-    if let Err(fault) = well_formed(state) {
-        trace.fault(fault);
-        return Err(Refusal::IllFormed);
-    }
-    check_fates(fates)?;
+    check_traced(state, trace)?;
+    check_fates(fates, FRAME_PLACES)?;
     let start = Seconds::given(start)?.micros;
     let end = End::given(end)?;
     if start < 0 || !end.is_after(start) {

@@ -1,14 +1,15 @@
-//! The store: a track's frames, putting one in, and the walk of step 8 that takes some out.
+//! The store: a track's frames, putting one in, the walk of step 8 that takes some out, and how late
+//! a track's frames are presented.
 
 use std::ops::Range;
 
 use crate::refusal::{Cause, Fate, Refusal};
-use crate::state::{Frame, State, FRAME_PLACES};
+use crate::state::{Frame, State, TRACK_PLACES};
 use crate::trace::{Branch, Trace};
 
-/// Refusal 2.
-pub(crate) fn check_fates(fates: &[Fate]) -> Result<(), Refusal> {
-    if fates.len() < FRAME_PLACES {
+/// Refusal 2, by a call that needs so many lines.
+pub(crate) fn check_fates(fates: &[Fate], lines: usize) -> Result<(), Refusal> {
+    if fates.len() < lines {
         return Err(Refusal::ShortFates);
     }
     Ok(())
@@ -42,11 +43,47 @@ impl State {
 
     /// Closes places that no longer hold a frame, and leaves zeros at the end.
     pub(crate) fn close(&mut self, places: Range<usize>) {
+        if places.is_empty() {
+            return;
+        }
         let count = self.frame_count - places.len();
         self.frames
             .copy_within(places.end..self.frame_count, places.start);
         self.frames[count..self.frame_count].fill(Frame::default());
         self.frame_count = count;
+    }
+}
+
+/// For each track a time after which none of its frames is presented. A stretch that starts after
+/// it overlaps none of them, which then need not be searched: a batch, whose frames mostly follow
+/// those stored, notes these times in one pass, instead of one for each frame.
+pub(crate) struct Latest([i64; TRACK_PLACES]);
+
+impl Latest {
+    /// Nothing is known, and every stretch has to be searched for.
+    pub(crate) fn unknown() -> Self {
+        Self([i64::MAX; TRACK_PLACES])
+    }
+
+    /// The greatest presentation time of each track.
+    pub(crate) fn of(state: &State) -> Self {
+        let mut latest = Self([i64::MIN; TRACK_PLACES]);
+        for frame in state.stored() {
+            latest.note(frame);
+        }
+        latest
+    }
+
+    /// Takes a frame that is stored into account. One that goes changes nothing: what is left is
+    /// not presented later for that.
+    pub(crate) fn note(&mut self, frame: &Frame) {
+        let latest = &mut self.0[frame.track as usize - 1];
+        *latest = frame.pts.max(*latest);
+    }
+
+    /// Whether all frames of a track are known to be presented before a stretch.
+    pub(crate) fn precedes(&self, track: u32, stretch: &Range<i64>) -> bool {
+        self.0[track as usize - 1] < stretch.start
     }
 }
 

@@ -1,4 +1,5 @@
-//! The branches of append, remove and the reader of segments, told to whoever wants to count them.
+//! The branches of append, batch, remove and the reader of segments, told to whoever wants to count
+//! them.
 
 use crate::named::named;
 use crate::well_formed::Fault;
@@ -10,6 +11,9 @@ pub trait Trace {
 
     /// The state failed a clause of the well-formed test.
     fn fault(&mut self, _fault: Fault) {}
+
+    /// A branch of a batch is taken. The branches of its appends are told as those of any append.
+    fn batch(&mut self, _branch: BatchBranch) {}
 
     /// A box is read, or malformed, in its parent.
     fn framed(&mut self, _parent: Parent, _framing: Framing) {}
@@ -23,7 +27,7 @@ impl Trace for () {}
 named! {
     /// A branch of the paper's steps.
     Branch {
-        /// append: refusals 1, 2, 3, 4, 9 passed
+        /// append: refusals before 7 passed
         AppendBegins,
         /// step 1 passed over, segments mode
         Step1Segments,
@@ -119,6 +123,26 @@ named! {
         RemoveLosesTaken,
         /// removal loses the last decode time by cause 5
         RemoveLosesFollowing,
+    }
+}
+
+named! {
+    /// A branch of a batch.
+    BatchBranch {
+        /// refusals 1, 13, 2 passed
+        Begins,
+        /// a row's track that no buffer can have
+        RowTrack,
+        /// a row's duration that no frame can have
+        RowDuration,
+        /// a row's flag that is neither 0 nor 1
+        RowFlag,
+        /// a frame beyond all of its track, which are not searched
+        Beyond,
+        /// all frames accepted
+        Whole,
+        /// stopped at a refused frame
+        Stopped,
     }
 }
 

@@ -5,6 +5,7 @@ use crate::numbers::{frame_duration, micros, quotient, result_time};
 use crate::refusal::Refusal;
 use crate::settings::{End, Seconds, Settings};
 use crate::state::{Frame, Head, Maybe, State, Track, LAST_KIND};
+use crate::trace::Trace;
 
 named! {
     /// A clause of the section that a state fails.
@@ -70,7 +71,15 @@ named! {
 
 /// Refusal 1.
 pub(crate) fn check(state: &State) -> Result<(), Refusal> {
-    well_formed(state).map_err(|_| Refusal::IllFormed)
+    check_traced(state, &mut ())
+}
+
+/// [`check`], telling what the state fails.
+pub(crate) fn check_traced<T: Trace>(state: &State, trace: &mut T) -> Result<(), Refusal> {
+    well_formed(state).map_err(|fault| {
+        trace.fault(fault);
+        Refusal::IllFormed
+    })
 }
 
 /// The whole test.

@@ -1,9 +1,10 @@
 //! Each clause of "Well-formed state", broken alone.
 
 use second::{
-    abort, append, common_ranges, create, quotient, read_settings, remove, set_mode, set_offset,
-    set_window_end, set_window_start, track_ranges, well_formed, Fault, Maybe, Mode, Offered,
-    Refusal, State, FRAME_PLACES, LONGEST_DURATION, OFFERED_LIMIT, RESULT_LIMIT,
+    abort, append, append_batch, common_ranges, create, quotient, read_settings, remove, set_mode,
+    set_offset, set_window_end, set_window_start, track_ranges, well_formed, Fault, Maybe, Mode,
+    Offered, Refusal, State, BATCH_LINES, FRAME_PLACES, LONGEST_DURATION, OFFERED_LIMIT,
+    RESULT_LIMIT,
 };
 
 const BEYOND: i64 = RESULT_LIMIT + 1;
@@ -82,7 +83,7 @@ const DAMAGES: &[(Fault, Damage)] = &[
 
 /// What every call says to a state, each with a copy.
 fn refusals(state: &State) -> Vec<Option<Refusal>> {
-    let mut fates = [[0; 2]; FRAME_PLACES];
+    let mut fates = [[0; 2]; BATCH_LINES];
     let mut ranges = [[0; 2]; FRAME_PLACES];
     let offered = Offered {
         track: 1,
@@ -91,8 +92,8 @@ fn refusals(state: &State) -> Vec<Option<Refusal>> {
         duration: 100,
         flagged: true,
     };
-    let mut states = [*state; 7];
-    let [a, b, c, d, e, f, g] = &mut states;
+    let mut states = [*state; 8];
+    let [a, b, c, d, e, f, g, h] = &mut states;
     let said = vec![
         append(a, &offered, &mut fates).err(),
         remove(b, 0.0, 1.0, &mut fates).err(),
@@ -101,13 +102,14 @@ fn refusals(state: &State) -> Vec<Option<Refusal>> {
         set_offset(e, 0.0).err(),
         set_window_start(f, 0.0).err(),
         set_window_end(g, 2.0).err(),
+        append_batch(h, &[], &mut fates).err(),
         read_settings(state).err(),
         track_ranges(state, 1, &mut ranges).err(),
         common_ranges(state, &mut ranges).err(),
     ];
     if said.iter().all(Option::is_some) {
         assert!(states.iter().all(|after| after == state), "a state moved");
-        assert_eq!(fates, [[0; 2]; FRAME_PLACES], "fate list touched");
+        assert_eq!(fates, [[0; 2]; BATCH_LINES], "fate list touched");
         assert_eq!(ranges, [[0; 2]; FRAME_PLACES], "range list touched");
     }
     said

@@ -8,7 +8,8 @@ use Rattle.buffer_state.specs.declared.Refusal.the-variants.{IllFormed, ShortFa
 use Rattle.buffer_state.specs.Lent.{wellFormedAt}
 use Rattle.buffer_state.specs.Refusals.{refused}
 use Rattle.buffer_laws.proofs.AnswerLaws.{answered}
-use Rattle.append.proofs.AnswerLaws.{refused-one, refused-two}
+use Rattle.append.proofs.AnswerLaws.{refused-one, refused-two, enough}
+use Rattle.append.proofs.StoredLaws.{held-store, past-limits}
 use Rattle.append.proofs.append.Statement.{statement}
 use Rattle.append.proofs.append.Tie as tie
 
@@ -45,13 +46,25 @@ returns-2 c =
     (c .refuse2 .ensures) refl refl refl
 
 append-tested-requires : tie.Need-append-tested-requires
-append-tested-requires c κs = let e = c .before .before .before in (whole (e .before), omega (arith, e .if2 .left))
+append-tested-requires c κs =
+    let e = c .before .before .before in
+    let a = at-start (e .before .before) .args in
+    let w = whole (e .before) in
+    let few = held-store (a .h) (a .times .now) (a .tags .now) w .few in
+    (w, past-limits (a .h) (a .times .now) (a .tags .now) w (a .f .track), omega (arith, e .if2 .left, few), omega (arith, e .if2 .left))
 
 same-length : tie.Need-same-length
 same-length c = search needs
 
 returns-3 : tie.Need-returns-3
-returns-3 c = c .before .append-tested .ensures
+returns-3 c =
+    let t = c .before in
+    let e = t .before .before .before .before in
+    let a = at-start (e .before .before) .args in
+    let r = t .append-tested .ensures in
+    answered (a .h) (a .times .now) (a .tags .now) (a .fates .now) _
+    (enough _ (a .f) (a .h) (a .times .now) (a .tags .now) (whole (e .before)) (omega (arith, e .if2 .left)))
+    (r .0) (r .1 .0) (r .1 .1 .0) (r .1 .1 .1)
 
 pub append-spec : {M : Type 1} → statement M
 append-spec =

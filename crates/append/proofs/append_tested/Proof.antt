@@ -1,22 +1,25 @@
 -- The refusals in their order, each by the test as it is told; then the pass that decides is the last one, and it is settled.
 use mathlib.Core.Path.{_≡_, refl, sym, ap, _∙_, subst}
 use mathlib.Core.Bool.{true, false, _&&_}
+use Prim.Native.Nat.{_≤_}
+use native.Mathlib.Omega.{arith}
 use borrow.Author.Needs.{needs}
 use borrow.Author.Tests.{ne-eqb, not-true, not-false}
 use lib.Dec.{leb, eqb}
+use lib.ListN.{length, take}
 use Rattle.buffer_state.specs.declared.Refusal.the-variants.{NoTrack, FrameLimits, ResultLimits, LastNumber}
 use Rattle.buffer_state.specs.Append.{lastPass, leavesLimits, offerable}
 use Rattle.buffer_state.specs.Buffer.{Buffer}
 use Rattle.buffer_state.specs.Layout.{bufferOf}
-use Rattle.buffer_state.specs.Lent.{stateAt}
-use Rattle.buffer_state.specs.Limits.{lastNumber}
+use Rattle.buffer_state.specs.Lent.{framesOf, stateAt}
+use Rattle.buffer_state.specs.Limits.{places, lastNumber}
 use Rattle.buffer_state.specs.Refusals.{refused}
 use Rattle.buffer_laws.proofs.AnswerLaws.{answered}
 use Rattle.heads.specs.declared.Passed.{Passed}
 use Rattle.heads.specs.Heads.{passedAs, deciding}
 use Rattle.heads.proofs.PassLaws.{decides, decides-last}
-use Rattle.append.specs.Settled.{passAt, settledResult, Ready}
-use Rattle.append.proofs.AnswerLaws.{refused-three, refused-four, refused-nine, refused-seven, goes-on, state-head, state-track, last-pass-back, last-pass-ready}
+use Rattle.append.specs.Settled.{passAt, settledResult, Ready, Before}
+use Rattle.append.proofs.AnswerLaws.{refused-three, refused-four, refused-nine, refused-seven, goes-on, state-head, state-track, last-pass-track, last-pass-count, last-pass-back, last-pass-ready}
 use Rattle.append.proofs.StoredLaws.{held-head}
 use Rattle.append.proofs.append_tested.Statement.{statement}
 use Rattle.append.proofs.append_tested.Tie as tie
@@ -24,6 +27,10 @@ use Rattle.append.proofs.append_tested.Tie as tie
 -- the buffer that is held
 abbrev held : tie.Start → Buffer
 held s = let a = s .args in bufferOf (stateAt (a .h) (a .times .now) (a .tags .now))
+
+-- the call is as if lent so many lines
+lines : places ≤ places
+lines = omega arith
 
 has-track-requires : tie.Need-has-track-requires
 has-track-requires c κs = search needs
@@ -37,7 +44,7 @@ returns c =
     let s = i .before .before in
     let a = s .args in
     answered (a .h) (a .times .now) (a .tags .now) (a .fates .now) (refused NoTrack)
-    (refused-three _ (a .f) (a .h) (a .times .now) (a .tags .now) (s .pre .0) (s .pre .1) (sym (i .before .has-track .ensures) ∙ not-true _ (i .if1 .taken)))
+    (refused-three _ (a .f) (a .h) (a .times .now) (a .tags .now) (s .pre .0) lines (sym (i .before .has-track .ensures) ∙ not-true _ (i .if1 .taken)))
     (c .refuse .ensures) refl refl refl
 
 track : (c : tie.Else1) → let a = c .before .before .args in (leb 1 (a .f .track) && leb (a .f .track) (a .h .ntracks)) ≡ true
@@ -56,7 +63,7 @@ returns-2 c =
     let s = t .before .before in
     let a = s .args in
     answered (a .h) (a .times .now) (a .tags .now) (a .fates .now) (refused FrameLimits)
-    (refused-four _ (a .f) (a .h) (a .times .now) (a .tags .now) (s .pre .0) (s .pre .1) (track t) (sym (i .before .is-offerable .ensures) ∙ not-true _ (i .if2 .taken)))
+    (refused-four _ (a .f) (a .h) (a .times .now) (a .tags .now) (s .pre .0) lines (track t) (sym (i .before .is-offerable .ensures) ∙ not-true _ (i .if2 .taken)))
     (c .refuse2 .ensures) refl refl refl
 
 good : (c : tie.Else2) → offerable (c .before .before .before .before .args .f) ≡ true
@@ -73,7 +80,7 @@ returns-3 c =
     let s = t .before .before in
     let a = s .args in
     answered (a .h) (a .times .now) (a .tags .now) (a .fates .now) (refused LastNumber)
-    (refused-nine _ (a .f) (a .h) (a .times .now) (a .tags .now) (s .pre .0) (s .pre .1) (track t) (good g) (i .if3 .taken))
+    (refused-nine _ (a .f) (a .h) (a .times .now) (a .tags .now) (s .pre .0) lines (track t) (good g) (i .if3 .taken))
     (c .refuse3 .ensures) refl refl refl
 
 abbrev at-start : tie.Else3 → tie.Start
@@ -108,7 +115,7 @@ returns-4 c =
     let a = s .args in
     let out = not-false _ (sym (decides (held s) (a .f)) ∙ ap (λ (x : Passed). x .fits) (sym (decided p)) ∙ not-true _ (i .if4 .taken)) in
     answered (a .h) (a .times .now) (a .tags .now) (a .fates .now) (refused ResultLimits)
-    (refused-seven _ (a .f) (a .h) (a .times .now) (a .tags .now) (s .pre .0) (s .pre .1) (track t) (good g) (number n) out)
+    (refused-seven _ (a .f) (a .h) (a .times .now) (a .tags .now) (s .pre .0) lines (track t) (good g) (number n) out)
     (c .refuse4 .ensures) refl refl refl
 
 -- refusal 7 does not take it
@@ -134,7 +141,14 @@ settle-requires c κs =
     let a = s .args in
     let w = s .pre .0 in
     let has = state-track (a .h) (a .times .now) (a .tags .now) w (a .f) (track t) in
-    (subst (λ (p : Passed). Ready (p .head) (a .times .now) (a .tags .now) (p .frame)) (sym (last i)) (last-pass-ready (a .h) (a .times .now) (a .tags .now) w (a .f) has (number n) (inside i)), s .pre .1)
+    let own = last-pass-track (a .h) (a .times .now) (a .tags .now) w (a .f) in
+    let count = last-pass-count (a .h) (a .times .now) (a .tags .now) w (a .f) in
+    let ok =
+    subst (λ (p : Passed). Ready (p .head) (a .times .now) (a .tags .now) (p .frame)
+    × Before (p .frame .track) (a .bound .micros) (take (p .head .nframes) (framesOf (a .times .now) (a .tags .now))) × (p .head .nframes ≤ length (a .fates .now)))
+    (sym (last i))
+    (last-pass-ready (a .h) (a .times .now) (a .tags .now) w (a .f) has (number n) (inside i), rw (own, count) (s .pre .1), omega (arith, count, s .pre .2)) in
+    (ok .0, ok .1, ok .2, s .pre .3)
 
 same-length : tie.Need-same-length
 same-length c = search needs
@@ -160,7 +174,7 @@ returns-5 c =
     ∙ ap settledResult (last-pass-back (a .h) (a .times .now) (a .tags .now) w (a .f)) in
     let e = r .settle .ensures in
     answered (a .h) (a .times .now) (a .tags .now) (a .fates .now) _
-    (goes-on _ (a .f) (a .h) (a .times .now) (a .tags .now) w (s .pre .1) (track t) (good g) (number n) (inside i) ∙ sym back)
+    (goes-on _ (a .f) (a .h) (a .times .now) (a .tags .now) w lines (track t) (good g) (number n) (inside i) ∙ sym back)
     (e .0) (e .1 .0) (e .1 .1 .0) (e .1 .1 .1)
 
 pub append-tested-spec : {M : Type 1} → statement M

@@ -34,7 +34,7 @@ store-frame-requires : tie.Need-store-frame-requires
 store-frame-requires c κs =
     let i = c .before .before .before in
     let s = i .before .before .before .before in
-    (s .pre .0, sym (told (i .before)) ∙ i .if1 .taken, s .pre .1)
+    (s .pre .0, sym (told (i .before)) ∙ i .if1 .taken, s .pre .1, s .pre .2)
 
 same-length : tie.Need-same-length
 same-length c = search needs
@@ -54,7 +54,7 @@ drop-frame-requires c κs =
     let s = i .before .before .before .before in
     let a = s .args in
     let r = s .pre .0 in
-    (r .track, held-store (a .p .head) (a .times .now) (a .tags .now) (r .whole) .few, r .number, omega (arith, i .if1 .left), s .pre .1)
+    (r .track, held-store (a .p .head) (a .times .now) (a .tags .now) (r .whole) .few, r .number, omega (arith, i .if1 .left), s .pre .3)
 
 same-length-4 : tie.Need-same-length-4
 same-length-4 c = search needs

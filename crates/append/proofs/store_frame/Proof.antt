@@ -16,7 +16,7 @@ use Rattle.buffer_state.specs.Answers.{written}
 use Rattle.buffer_state.specs.Append.{Pass, needing, overlapped, overlapMarks, stored, stepNine, storedAs}
 use Rattle.buffer_state.specs.Buffer.{trackOf}
 use Rattle.buffer_state.specs.Layout.{zeroFrame, padded}
-use Rattle.buffer_state.specs.Lent.{timesOf, tagsOf, headOf}
+use Rattle.buffer_state.specs.Lent.{timesOf, tagsOf, headOf, timesIn, tagsIn}
 use Rattle.buffer_state.specs.Limits.{places, lastNumber}
 use Rattle.buffer_state.specs.Refusals.{refused, done}
 use Rattle.buffer_state.specs.Store.{Marked, Line, insertSorted, walk, kept, linesOf}
@@ -97,13 +97,13 @@ marked c =
     (marks-same onTrack (inSpans (c .spans-with .result)) (overlapped (trackOf (storing s .buffer) (g .track)) g)
     (λ x _. c .spans-with .ensures x ∙ p .span-of .ensures x ∙ ap (λ (t : Track). overlapped t g x) own) 4 (frames s) (store s .tracks))
 
-first-in-requires : tie.Need-first-in-requires
-first-in-requires c κs =
+first-overlapped-requires : tie.Need-first-overlapped-requires
+first-overlapped-requires c κs =
     let s = off (c .before .before) .before in
     let h = store s in
-    (omega (arith, h .few, h .long .0), h .long .0 ∙ sym (h .long .1), h .tracks)
+    (h, c .before .before .spans-with .ensures, s .pre .2)
 
-abbrev spanned : tie.After-first-in → tie.After-spans-with
+abbrev spanned : tie.After-first-overlapped → tie.After-spans-with
 spanned c = c .before .before .before
 
 -- where none is in a stretch, all stay, and nothing is told
@@ -115,7 +115,7 @@ all-stay c =
     let s = off p .before in
     let whole = take-all (s .args .h .nframes) (frames s) (omega (arith, count s)) in
     let all = none-gone (inSpans (p .spans-with .result)) 4 (frames s)
-    (ap (allOf (λ (g : Frame). not (inSpans (p .spans-with .result) g))) (sym whole) ∙ rw (c .if1 .taken) at (m .first-in .ensures .before)) in
+    (ap (allOf (λ (g : Frame). not (inSpans (p .spans-with .result) g))) (sym whole) ∙ rw (c .if1 .taken) at (m .first-overlapped .ensures .before)) in
     (ap kept (sym (marked p)) ∙ all .0, ap linesOf (sym (marked p)) ∙ all .1)
 
 -- else a place is freed
@@ -125,8 +125,8 @@ left-few c =
     let p = spanned m in
     let s = off p .before in
     let a = s .args in
-    freed (p .spans-with .result) (a .h .nframes) (m .first-in .result) (a .times .now) (a .tags .now) (store s) (m .first-in .ensures)
-    (omega (arith, m .first-in .ensures .inside, c .if1 .left))
+    freed (p .spans-with .result) (a .h .nframes) (m .first-overlapped .result) (a .times .now) (a .tags .now) (store s) (m .first-overlapped .ensures)
+    (omega (arith, m .first-overlapped .ensures .inside, c .if1 .left))
 
 -- ---- the store is full
 
@@ -151,17 +151,10 @@ returns c =
 
 -- ---- the insertion is all
 
-step-nine-requires : tie.Need-step-nine-requires
-step-nine-requires c κs = let k = off (spanned (c .before .before)) in (track k, k .before .pre .0 .pts, number k, omega (arith, c .if2 .left))
-
-stored-as-requires : tie.Need-stored-as-requires
-stored-as-requires c κs = search needs
-
-insert-requires : tie.Need-insert-requires
-insert-requires c κs =
-    let e = c .before .before .before .before in
-    let h = store (off (spanned (e .before .before)) .before) in
-    (omega (arith, e .if2 .left), h .long, h .hold, h .order)
+put-next-requires : tie.Need-put-next-requires
+put-next-requires c κs =
+    let e = c .before .before in
+    (off (spanned (e .before .before)) .before .pre .0, omega (arith, e .if2 .left))
 
 same-length-3 : tie.Need-same-length-3
 same-length-3 c = search needs
@@ -170,29 +163,25 @@ same-length-4 : tie.Need-same-length-4
 same-length-4 c = search needs
 
 returns-2 : tie.Need-returns-2
-unfolding stored stepNine
+unfolding stored
 returns-2 c =
     let u = c .before .before in
-    let f = u .before .before .before in
-    let x = f .before in
-    let e = x .before in
+    let e = u .before .before .before in
     let i = e .before in
-    let k = off (spanned (i .before)) in
-    let s = k .before in
+    let s = off (spanned (i .before)) .before in
     let a = s .args in
     let q : Pass = storing s in
     let all = all-stay i in
     let n : length (kept (overlapMarks q)) ≡ a .h .nframes = ap length (all .0) ∙ count s in
     let room : length (stored q .after .frames) ≤ 1024 = omega (arith, stored-count q, n, e .if2 .left) in
     let res = store-result (pass s) (s .pre .1) room in
-    let nine = x .step-nine .ensures (q .buffer) (kept (overlapMarks q)) (headed k) (sym n) in
-    let new = f .stored-as .ensures ∙ ap (λ (h : Head). storedAs (h .last) (a .g)) nine in
     let none = sym (all .1) in
     let old = sym (all .0) in
+    let nine = u .put-next .ensures .0 ∙ ap (λ (l : List Frame). headOf (stepNine q l)) old in
     answered (a .old) (a .times .now) (a .tags .now) (a .fates .now) (done (stored q)) res
     (λ j. record { answer = Count.Done (length (none j)); head = nine j })
-    (u .insert .ensures .0 ∙ (λ j. timesOf (padded places zeroFrame (insertSorted (new j) (old j)))))
-    (u .insert .ensures .1 ∙ (λ j. tagsOf (padded places zeroFrame (insertSorted (new j) (old j)))))
+    (u .put-next .ensures .1 .0 ∙ ap (λ (l : List Frame). timesIn (stepNine q l)) old)
+    (u .put-next .ensures .1 .1 ∙ ap (λ (l : List Frame). tagsIn (stepNine q l)) old)
     (ap (λ (ls : List Line). written ls ++ drop (length ls) (a .fates .now)) none)
 
 -- ---- frames go
@@ -200,15 +189,15 @@ returns-2 c =
 add-number : tie.Need-add-number
 add-number c = let k = off (spanned (c .before .before)) in omega (arith, number k)
 
-stored-as-requires-2 : tie.Need-stored-as-requires-2
-stored-as-requires-2 c κs = search needs
+stored-as-requires : tie.Need-stored-as-requires
+stored-as-requires c κs = search needs
 
 put-in-requires : tie.Need-put-in-requires
 put-in-requires c κs =
     let e = c .before .before .before .before .before in
     let m = e .before in
     let s = off (spanned m) .before in
-    (store s, m .first-in .ensures, omega (arith, m .first-in .ensures .inside, e .if1 .left), s .pre .2)
+    (store s, m .first-overlapped .ensures, omega (arith, m .first-overlapped .ensures .inside, e .if1 .left), s .pre .3)
 
 -- where they were found, and how many are left
 abbrev found : tie.After-put-in → tie.Else1
@@ -220,8 +209,8 @@ left c = c .put-in .ensures .1 .1 .1 .0 ∙ ap (λ (ms : List Marked). length (k
 room : (c : tie.After-put-in) → c .put-in .result .left < 1024
 room c = omega (arith, c .put-in .ensures .1 .1 .1 .0, left-few (found c))
 
-step-nine-requires-2 : tie.Need-step-nine-requires-2
-step-nine-requires-2 c κs =
+step-nine-requires : tie.Need-step-nine-requires
+step-nine-requires c κs =
     let u = c .before .before .before in
     let k = off (spanned (found u .before)) in
     (track k, k .before .pre .0 .pts, number k, room u)
@@ -247,9 +236,9 @@ returns-3 c =
     let q : Pass = storing s in
     let all : length (stored q .after .frames) ≤ 1024 = omega (arith, stored-count q, left u, room u) in
     let res = store-result (pass s) (s .pre .1) all in
-    let nine = c .step-nine2 .ensures (q .buffer) (kept (overlapMarks q)) (headed k) (left u) in
+    let nine = c .step-nine .ensures (q .buffer) (kept (overlapMarks q)) (headed k) (left u) in
     let told = u .put-in .ensures .1 .1 .1 .1 ∙ ap (λ (ms : List Marked). length (linesOf ms)) (marked p) in
-    let new = f .stored-as2 .ensures ∙ ap (λ (h : Head). storedAs (h .last + 1) (a .g)) (headed k) in
+    let new = f .stored-as .ensures ∙ ap (λ (h : Head). storedAs (h .last + 1) (a .g)) (headed k) in
     let ms = marked p in
     answered (a .old) (a .times .now) (a .tags .now) (a .fates .now) (done (stored q)) res
     (λ j. record { answer = Count.Done (told j); head = nine j })
@@ -265,21 +254,19 @@ store-frame-spec =
     track-of-requires
     span-of-requires
     spans-with-requires
-    first-in-requires
+    first-overlapped-requires
     refuse-requires
     same-length
     same-length-2
     returns
-    step-nine-requires
-    stored-as-requires
-    insert-requires
+    put-next-requires
     same-length-3
     same-length-4
     returns-2
     add-number
-    stored-as-requires-2
+    stored-as-requires
     put-in-requires
-    step-nine-requires-2
+    step-nine-requires
     same-length-5
     same-length-6
     same-length-7

@@ -28,6 +28,9 @@ lines-within c = let h = c .before .before .pre .0 in omega (arith, lines-asked 
 ranges-within : (c : tie.After-of-ranges) → c .before .before .before .args .placed + c .of-ranges .result ≤ length (c .before .before .before .args .list .now)
 ranges-within c = let h = c .before .before .before .pre .1 in omega (arith, ranges-asked c)
 
+frames-within : (c : tie.After-frame-count) → c .before .first-frame .result + c .frame-count .result ≤ length (c .before .before .before .before .before .args .frames .now)
+frames-within c = let h = c .before .before .before .before .before .pre .2 in omega (arith, c .before .first-frame .ensures, c .frame-count .ensures)
+
 wide-requires : tie.Need-wide-requires
 wide-requires c κs = search needs
 
@@ -43,6 +46,15 @@ of-ranges-requires c κs = search needs
 add-end : tie.Need-add-end
 add-end c = let h = ranges-within c in search needs
 
+first-frame-requires : tie.Need-first-frame-requires
+first-frame-requires c κs = search needs
+
+frame-count-requires : tie.Need-frame-count-requires
+frame-count-requires c κs = search needs
+
+add-past : tie.Need-add-past
+add-past c = let h = frames-within c in search needs
+
 mul-make-call : tie.Need-mul-make-call
 mul-make-call c = search needs
 
@@ -53,7 +65,7 @@ part-make-call-start : tie.Need-part-make-call-start
 part-make-call-start c = search needs
 
 part-make-call-end : tie.Need-part-make-call-end
-part-make-call-end c = let h = lines-within (c .before .before .before) in search needs
+part-make-call-end c = let h = frames-within c in search needs
 
 mul-make-call-2 : tie.Need-mul-make-call-2
 mul-make-call-2 c = search needs
@@ -65,7 +77,19 @@ part-make-call-start-2 : tie.Need-part-make-call-start-2
 part-make-call-start-2 c = search needs
 
 part-make-call-end-2 : tie.Need-part-make-call-end-2
-part-make-call-end-2 c = let h = ranges-within (c .before .before .before) in search needs
+part-make-call-end-2 c = let h = lines-within (c .before .before .before .before .before .before) in search needs
+
+mul-make-call-3 : tie.Need-mul-make-call-3
+mul-make-call-3 c = search needs
+
+sub-make-call-3 : tie.Need-sub-make-call-3
+sub-make-call-3 c = search needs
+
+part-make-call-start-3 : tie.Need-part-make-call-start-3
+part-make-call-start-3 c = search needs
+
+part-make-call-end-3 : tie.Need-part-make-call-end-3
+part-make-call-end-3 c = let h = ranges-within (c .before .before .before .before .before .before) in search needs
 
 make-call-requires : tie.Need-make-call-requires
 make-call-requires c κs = search needs
@@ -79,16 +103,20 @@ same-length-2 c = search needs
 returns : tie.Need-returns
 returns c =
     let k = c .before .before in
-    let g = k .before .before .before .before .before in
+    let o = k .before .before .before .before .before .before in
+    let f = o .before in
+    let g = f .before in
     let l = g .before in
     let a = l .before .before .args in
     let n : ℕ = a .at + l .of-lines .result - a .at in
     let m : ℕ = a .placed + g .of-ranges .result - a .placed in
+    let count : ℕ = f .first-frame .result + o .frame-count .result - f .first-frame .result in
     let en : n ≡ l .of-lines .result = omega arith in
     let em : m ≡ g .of-ranges .result = omega arith in
-    called-at (a .t2) (a .stamps) (a .seconds) (lent (a .h) (a .times .now) (a .tags .now)) (k .make-call .result) (k .make-call .last .1 .1 .1 .1 .0) (k .make-call .last .1 .1 .1 .1 .1 .0) (a .lines .now) (a .at) n (a .list .now) (a .placed) m
-    (en ∙ lines-asked l) (em ∙ ranges-asked g) (omega (arith, lines-within l)) (omega (arith, ranges-within g))
-    (k .make-call .last .1 .1 .1 .1 .1 .1 .0) (k .make-call .last .1 .1 .1 .1 .1 .1 .1 .0) (k .make-call .ensures) (k .make-call .kept .1 .1 .1 .1 .1 .1 .0) (k .make-call .kept .1 .1 .1 .1 .1 .1 .1 .0)
+    let ec : count ≡ o .frame-count .result = omega arith in
+    called-at (a .t2) (a .stamps) (a .seconds) (a .frames .now) (f .first-frame .result) count (lent (a .h) (a .times .now) (a .tags .now)) (k .make-call .result) (k .make-call .last .1 .1 .1 .1 .1 .0) (k .make-call .last .1 .1 .1 .1 .1 .1 .0) (a .lines .now) (a .at) n (a .list .now) (a .placed) m
+    (f .first-frame .ensures) (ec ∙ o .frame-count .ensures) (en ∙ lines-asked l) (em ∙ ranges-asked g) (omega (arith, lines-within l)) (omega (arith, ranges-within g))
+    (k .make-call .last .1 .1 .1 .1 .1 .1 .1 .0) (k .make-call .last .1 .1 .1 .1 .1 .1 .1 .1 .0) (k .make-call .ensures) (k .make-call .kept .1 .1 .1 .1 .1 .1 .1 .0) (k .make-call .kept .1 .1 .1 .1 .1 .1 .1 .1 .0)
 
 pub call-at-spec : {M : Type 1} → statement M
 call-at-spec =
@@ -101,6 +129,9 @@ call-at-spec =
     add-to
     of-ranges-requires
     add-end
+    first-frame-requires
+    frame-count-requires
+    add-past
     mul-make-call
     sub-make-call
     part-make-call-start
@@ -109,6 +140,10 @@ call-at-spec =
     sub-make-call-2
     part-make-call-start-2
     part-make-call-end-2
+    mul-make-call-3
+    sub-make-call-3
+    part-make-call-start-3
+    part-make-call-end-3
     make-call-requires
     same-length
     same-length-2

@@ -1,11 +1,8 @@
 -- Test by test, in the order of the definition.
 use mathlib.Core.Path.{_≡_, sym, _∙_}
 use mathlib.Core.Bool.{true}
-use Prim.Native.Nat.{_≤_}
-use borrow.Author.Tests.{leb-true, not-true, not-false}
-use lib.Dec.{leb}
+use borrow.Author.Tests.{not-true, not-false}
 use lib.ListN.{length}
-use Rattle.laws.proofs.BoolLaws.{and-left, and-right}
 use Rattle.call_list.specs.Listed.{longEnough}
 use Rattle.call_list.proofs.ClaimLaws.{not-long, rows-unfit, by-ranges}
 use borrow.Author.Needs.{needs}
@@ -19,20 +16,10 @@ returns : tie.Need-returns
 returns c =
     let l = c .before in
     let a = l .before .args in
-    not-long (a .calls .now) (a .stamps) (a .seconds) (a .answers) (a .lines) (a .ranges) (a .readings) (sym (l .long-enough .ensures) ∙ not-true _ (c .if1 .taken))
+    not-long (a .calls .now) (a .stamps) (a .seconds) (a .frames) (a .answers) (a .lines) (a .ranges) (a .readings) (sym (l .long-enough .ensures) ∙ not-true _ (c .if1 .taken))
 
-long : (c : tie.Else1) → let a = c .before .before .args in longEnough (length (a .calls .now)) (a .stamps) (a .seconds) (a .answers) (a .lines) (a .readings) ≡ true
+long : (c : tie.Else1) → let a = c .before .before .args in longEnough (length (a .calls .now)) (a .stamps) (a .seconds) (a .answers) (a .readings) ≡ true
 long c = sym (c .before .long-enough .ensures) ∙ not-false _ (c .if1 .left)
-
--- a line for each call
-enough-lines : (c : tie.Else1) → length (c .before .before .args .calls .now) ≤ c .before .before .args .lines
-enough-lines c =
-    let a = c .before .before .args in
-    let n = length (a .calls .now) in
-    leb-true n (a .lines) (and-left (leb n (a .lines)) _ (and-right (leb n (a .answers)) _ (and-right (leb n (a .seconds)) _ (and-right (leb n (a .stamps)) _ (long c)))))
-
-sub-rows-fit : tie.Need-sub-rows-fit
-sub-rows-fit c = let h = enough-lines c in search needs
 
 rows-fit-requires : tie.Need-rows-fit-requires
 rows-fit-requires c κs = search needs
@@ -41,7 +28,7 @@ returns-2 : tie.Need-returns-2
 returns-2 c =
     let w = c .before in
     let a = w .before .before .before .args in
-    rows-unfit (a .calls .now) (a .stamps) (a .seconds) (a .answers) (a .lines) (a .ranges) (a .readings) (long (w .before))
+    rows-unfit (a .calls .now) (a .stamps) (a .seconds) (a .frames) (a .answers) (a .lines) (a .ranges) (a .readings) (long (w .before))
     (sym (w .rows-fit .ensures) ∙ not-true _ (c .if2 .taken))
 
 ranges-fit-requires : tie.Need-ranges-fit-requires
@@ -53,7 +40,7 @@ returns-3 c =
     let w = e .before in
     let a = w .before .before .before .args in
     c .ranges-fit .ensures
-    ∙ by-ranges (a .calls .now) (a .stamps) (a .seconds) (a .answers) (a .lines) (a .ranges) (a .readings) (long (w .before))
+    ∙ by-ranges (a .calls .now) (a .stamps) (a .seconds) (a .frames) (a .answers) (a .lines) (a .ranges) (a .readings) (long (w .before))
     (sym (w .rows-fit .ensures) ∙ not-false _ (e .if2 .left))
 
 pub fit-spec : {M : Type 1} → statement M
@@ -62,7 +49,6 @@ fit-spec =
     (tie.spec
     long-enough-requires
     returns
-    sub-rows-fit
     rows-fit-requires
     returns-2
     ranges-fit-requires

@@ -27,7 +27,7 @@ returns c =
     let f = c .before .before in
     let s = f .before .before in
     let a = s .args in
-    unfit (a .kinds .now) (encodedCalls (a .calls .now) (a .stamps .now) (a .seconds .now)) (c .no-run .result) (before s) (before s) _
+    unfit (a .kinds .now) (encodedCalls (a .calls .now) (a .stamps .now) (a .seconds .now) (a .frames .now)) (c .no-run .result) (before s) (before s) _
     (sym (f .fit .ensures) ∙ not-true _ (c .before .if1 .taken)) (c .no-run .ensures) refl
 
 create-requires : tie.Need-create-requires
@@ -43,7 +43,7 @@ done-here c = let e : Said.Done ≡ c .before .before .before .create .result .a
 abbrev start : tie.After-create → tie.Start
 start c = c .before .before .before .before .before .before
 
-fits-here : (c : tie.After-create) → let a = start c .args in fitsIn (a .calls .now) (a .stamps .now) (a .seconds .now) (before (start c)) ≡ true
+fits-here : (c : tie.After-create) → let a = start c .args in fitsIn (a .calls .now) (a .stamps .now) (a .seconds .now) (a .frames .now) (before (start c)) ≡ true
 fits-here c = sym (c .before .before .before .before .fit .ensures) ∙ not-false _ (c .before .before .before .if1 .left)
 
 -- the creation and what it left of the arrays
@@ -86,7 +86,7 @@ returns-2 c =
     let t = r .before .before .before .before .before .before .before in
     let k = t .before .before .before in
     let a = start k .args in
-    completed (a .kinds .now) (encodedCalls (a .calls .now) (a .stamps .now) (a .seconds .now)) (r .run-from .result) (before (start k)) _ _
+    completed (a .kinds .now) (encodedCalls (a .calls .now) (a .stamps .now) (a .seconds .now) (a .frames .now)) (r .run-from .result) (before (start k)) _ _
     (k .create .result) (timesMade k) (tagsMade k) (made-here k) (fits-here k) (done-here t) (r .run-from .ensures)
 
 returns-3 : tie.Need-returns-3
@@ -95,7 +95,7 @@ returns-3 c =
     let k = w .before .before .before in
     let a = start k .args in
     let kept = kept-arrays (a .kinds .now) (k .create .result) (a .times .now) (timesMade k) (a .tags .now) (tagsMade k) (made-here k) (w .answer .given .0 .0) (w .answer .given .1) in
-    refused-run (a .kinds .now) (encodedCalls (a .calls .now) (a .stamps .now) (a .seconds .now)) (c .no-run2 .result) (before (start k)) _ _
+    refused-run (a .kinds .now) (encodedCalls (a .calls .now) (a .stamps .now) (a .seconds .now) (a .frames .now)) (c .no-run2 .result) (before (start k)) _ _
     (k .create .result) (timesMade k) (tagsMade k) (made-here k) (fits-here k) (w .answer .given .0 .0) (w .answer .given .1) (c .no-run2 .ensures)
     (λ i. listsOf (a .answers .now) (a .lines .now) (a .list .now) (a .readings .now) (kept .0 i) (kept .1 i))
 

@@ -10,24 +10,24 @@ use mir.Val.{Fits}
 use Rattle.buffer_state.specs.Lent.{bufferIn}
 use Rattle.call_rows.specs.Encoded.{ofLines, ofRanges}
 use Rattle.call_rows.specs.Replies.{lent}
-use Rattle.call_list.specs.Listed.{listsOf}
+use Rattle.call_list.specs.Listed.{firstFrame, frameCount, listsOf}
 use Rattle.call_list.proofs.ListedLaws.{filled-inside}
-use Rattle.call_list.proofs.LoopLaws.{Room, room, Sofar, sofar-none, lines-room, ranges-room, turn, ended}
+use Rattle.call_list.proofs.LoopLaws.{Room, room, Sofar, sofar-none, lines-room, ranges-room, frames-room, turn, ended}
 use borrow.Author.Needs.{needs}
 use Rattle.call_list.proofs.run_from.Statement.{statement}
 use Rattle.call_list.proofs.run_from.Tie as tie
 
 abbrev Inv-loop : tie.InvT-loop
-Inv-loop calls stamps seconds answers₀ lines₀ list₀ readings₀ times₀ tags₀ h₀ at₀ placed₀ read₀ i₀ answers lines list readings times tags h at placed read i =
-    Sofar calls stamps seconds (bufferIn (lent h₀ times₀ tags₀)) (listsOf answers₀ lines₀ list₀ readings₀ times₀ tags₀) (listsOf answers lines list readings times tags) h at placed read i
+Inv-loop calls stamps seconds frames answers₀ lines₀ list₀ readings₀ times₀ tags₀ h₀ at₀ placed₀ read₀ i₀ answers lines list readings times tags h at placed read i =
+    Sofar calls stamps seconds frames (bufferIn (lent h₀ times₀ tags₀)) (listsOf answers₀ lines₀ list₀ readings₀ times₀ tags₀) (listsOf answers lines list readings times tags) h at placed read i
 
 abbrev μ-loop : tie.MeasureT-loop
-μ-loop calls stamps seconds answers₀ lines₀ list₀ readings₀ times₀ tags₀ h₀ at₀ placed₀ read₀ i₀ answers lines list readings times tags h at placed read i = length calls - i
+μ-loop calls stamps seconds frames answers₀ lines₀ list₀ readings₀ times₀ tags₀ h₀ at₀ placed₀ read₀ i₀ answers lines list readings times tags h at placed read i = length calls - i
 
 fit : (c : tie.Start Inv-loop μ-loop)
-    → Room (c .args .calls .now) (c .args .stamps .now) (c .args .seconds .now)
+    → Room (c .args .calls .now) (c .args .stamps .now) (c .args .seconds .now) (c .args .frames .now)
     (listsOf (c .args .answers .now) (c .args .lines .now) (c .args .list .now) (c .args .readings .now) (c .args .times .now) (c .args .tags .now))
-fit c = room _ _ _ _ (c .pre .1)
+fit c = room _ _ _ _ _ (c .pre .1)
 
 lists-fit : (c : tie.Start Inv-loop μ-loop)
     → Fits w64 (length (c .args .calls .now)) × Fits w64 (length (c .args .lines .now)) × Fits w64 (length (c .args .list .now))
@@ -59,12 +59,17 @@ row c = getD (c .before .before .args .calls .now) (c .before .loop .i) []
 lines-here : (c : tie.In-loop Inv-loop μ-loop) → c .before .loop .at + ofLines (getD (row c) 0 0) (getD (row c) 4 0) ≤ length (c .before .loop .lines)
 lines-here c =
     let a = c .before .before in
-    lines-room _ _ _ _ _ (a .pre .0 .good) (a .pre .0 .empty) (fit a) _ _ _ _ _ _ (c .before .loop .inv) (c .loop-test .taken) (row c) refl
+    lines-room _ _ _ _ _ _ (a .pre .0 .good) (a .pre .0 .empty) (fit a) _ _ _ _ _ _ (c .before .loop .inv) (c .loop-test .taken) (row c) refl
 
 ranges-here : (c : tie.In-loop Inv-loop μ-loop) → c .before .loop .placed + ofRanges (getD (row c) 0 0) (getD (row c) 4 0) ≤ length (c .before .loop .list)
 ranges-here c =
     let a = c .before .before in
-    ranges-room _ _ _ _ _ (a .pre .0 .good) (a .pre .0 .empty) (fit a) _ _ _ _ _ _ (c .before .loop .inv) (c .loop-test .taken) (row c) refl
+    ranges-room _ _ _ _ _ _ (a .pre .0 .good) (a .pre .0 .empty) (fit a) _ _ _ _ _ _ (c .before .loop .inv) (c .loop-test .taken) (row c) refl
+
+frames-here : (c : tie.In-loop Inv-loop μ-loop) → firstFrame (row c) + frameCount (row c) ≤ length (c .before .before .args .frames .now)
+frames-here c =
+    let a = c .before .before in
+    frames-room _ _ _ _ _ _ (a .pre .0 .good) (a .pre .0 .empty) (fit a) _ _ _ _ _ _ (c .before .loop .inv) (c .loop-test .taken) (row c) refl
 
 -- the turn, up to the sums
 turned : (c : tie.After-readings Inv-loop μ-loop) →
@@ -75,23 +80,23 @@ turned : (c : tie.After-readings Inv-loop μ-loop) →
     let a = p .before .before .args in
     let o = p .before .loop in
     let t = k .call-at .result in
-    Sofar (a .calls .now) (a .stamps .now) (a .seconds .now) (bufferIn (lent (a .start) (a .times .now) (a .tags .now)))
+    Sofar (a .calls .now) (a .stamps .now) (a .seconds .now) (a .frames .now) (bufferIn (lent (a .start) (a .times .now) (a .tags .now)))
     (listsOf (a .answers .now) (a .lines .now) (a .list .now) (a .readings .now) (a .times .now) (a .tags .now))
-    (listsOf (set (o .answers) (o .i) (t .refusal ∷ t .count ∷ [])) (k .call-at .last .1 .1 .1 .1 .1 .1 .0) (k .call-at .last .1 .1 .1 .1 .1 .1 .1 .1 .0) (n .note-reading .last .1 .1 .0)
-    (k .call-at .last .1 .1 .1 .1 .0) (k .call-at .last .1 .1 .1 .1 .1 .0))
+    (listsOf (set (o .answers) (o .i) (t .refusal ∷ t .count ∷ t .accepted ∷ t .stop ∷ [])) (k .call-at .last .1 .1 .1 .1 .1 .1 .1 .0) (k .call-at .last .1 .1 .1 .1 .1 .1 .1 .1 .1 .0) (n .note-reading .last .1 .1 .0)
+    (k .call-at .last .1 .1 .1 .1 .1 .0) (k .call-at .last .1 .1 .1 .1 .1 .1 .0))
     (t .head) (o .at + ofLines (getD (row p) 0 0) (t .count)) (o .placed + ofRanges (getD (row p) 0 0) (t .count)) (n .note-reading .result) (suc (o .i))
 turned c =
     let n = c .before in
     let k = n .before .before .before .before .before in
     let p = k .before .before .before .before .before .before .before .before in
     let s = p .before .before in
-    turn _ _ _ _ _ (s .pre .0 .good) (s .pre .0 .empty) (fit s) _ _ _ _ _ _ (p .before .loop .inv) (p .loop-test .taken) (row p) refl
+    turn _ _ _ _ _ _ (s .pre .0 .good) (s .pre .0 .empty) (fit s) _ _ _ _ _ _ (p .before .loop .inv) (p .loop-test .taken) (row p) refl
     (getD (s .args .stamps .now) (p .before .loop .i) []) (getD (s .args .seconds .now) (p .before .loop .i) []) refl refl (k .call-at .result)
-    _ _ _ _ _ _ _ _ _ (k .call-at .ensures) (k .call-at .kept .1 .1 .1 .1 .1 .1 .0) (k .call-at .kept .1 .1 .1 .1 .1 .1 .1 .1 .0) refl
+    _ _ _ _ _ _ _ _ _ (k .call-at .ensures) (k .call-at .kept .1 .1 .1 .1 .1 .1 .1 .0) (k .call-at .kept .1 .1 .1 .1 .1 .1 .1 .1 .1 .0) refl
     (n .note-reading .ensures .1) (n .note-reading .kept .1 .1 .0) refl refl (n .note-reading .ensures .0)
 
 loop-holds : tie.Need-loop-holds Inv-loop μ-loop
-loop-holds c = sofar-none _ _ _ _ _ (c .args .start) (c .pre .0 .held)
+loop-holds c = sofar-none _ _ _ _ _ _ (c .args .start) (c .pre .0 .held)
 
 mul-row : tie.Need-mul-row Inv-loop μ-loop
 mul-row c = search needs
@@ -117,10 +122,10 @@ array-read-kind c = search needs
 call-at-requires : tie.Need-call-at-requires Inv-loop μ-loop
 call-at-requires c κs =
     let l = c .before .before .before .before .before .before .before in
-    (lines-here l, ranges-here l)
+    (lines-here l, ranges-here l, frames-here l)
 
-mul-t23 : tie.Need-mul-t23 Inv-loop μ-loop
-mul-t23 c = search needs
+mul-t24 : tie.Need-mul-t24 Inv-loop μ-loop
+mul-t24 c = search needs
 
 slice-set-from-answers : tie.Need-slice-set-from-answers Inv-loop μ-loop
 slice-set-from-answers c = places (c .before .before .before .before .before .before .before .before .before .before) .answers
@@ -172,7 +177,7 @@ same-length-4 : tie.Need-same-length-4 Inv-loop μ-loop
 same-length-4 c = search needs
 
 returns : tie.Need-returns Inv-loop μ-loop
-returns c = ended _ _ _ _ _ _ _ _ _ _ _ (c .before .loop .inv) (c .loop-test .left)
+returns c = ended _ _ _ _ _ _ _ _ _ _ _ _ (c .before .loop .inv) (c .loop-test .left)
 
 pub run-from-spec : {M : Type 1} → statement M
 run-from-spec =
@@ -189,7 +194,7 @@ run-from-spec =
     shared-slice-copy-out-second
     array-read-kind
     call-at-requires
-    mul-t23
+    mul-t24
     slice-set-from-answers
     note-reading-requires
     of-lines-requires

@@ -1,5 +1,5 @@
 -- By the kind of call: what the part for that kind says.
-use Rattle.call_rows.proofs.ReplyLaws.{made-lines, made-change, made-reading, made-ranges}
+use Rattle.call_rows.proofs.ReplyLaws.{made-lines, made-change, made-reading, made-ranges, made-batch}
 use Rattle.call_rows.specs.Replies.{lent}
 use borrow.Author.Needs.{needs}
 use Rattle.call_rows.proofs.make_call.Statement.{statement}
@@ -19,7 +19,7 @@ returns c =
     let l = c .before in
     let t = l .before .before .before .before in
     let a = t .before .args in
-    made-lines (lent (a .h) (a .times .now) (a .tags .now)) (a .t2) (a .stamps) (a .t4) (a .fates .now) (l .lines-step .last .1 .1 .1 .1 .1 .1 .0) (a .list .now) (a .list .now)
+    made-lines (lent (a .h) (a .times .now) (a .tags .now)) (a .t2) (a .stamps) (a .t4) (a .frames .now) (a .fates .now) (l .lines-step .last .1 .1 .1 .1 .1 .1 .0) (a .list .now) (a .list .now)
     (l .lines-step .result) (l .lines-step .last .1 .1 .1 .1 .0) (l .lines-step .last .1 .1 .1 .1 .1 .0) (t .if1 .taken) (l .lines-step .ensures)
 
 array-read-changed : tie.Need-array-read-changed
@@ -39,7 +39,7 @@ returns-2 c =
     let k = c .before .before in
     let t = k .before .before .before in
     let a = t .before .before .args in
-    made-change (lent (a .h) (a .times .now) (a .tags .now)) (a .t2) (a .stamps) (a .t4) (a .fates .now) (a .fates .now) (a .list .now) (a .list .now)
+    made-change (lent (a .h) (a .times .now) (a .tags .now)) (a .t2) (a .stamps) (a .t4) (a .frames .now) (a .fates .now) (a .fates .now) (a .list .now) (a .list .now)
     (k .changed .result) (c .change-step .result) (t .before .if1 .left) (t .if2 .taken) (c .change-step .ensures) (k .changed .ensures)
 
 read-settings-requires : tie.Need-read-settings-requires
@@ -53,7 +53,7 @@ returns-3 c =
     let k = c .before in
     let t = k .before .before .before in
     let a = t .before .before .before .args in
-    made-reading (lent (a .h) (a .times .now) (a .tags .now)) (a .t2) (a .stamps) (a .t4) (a .fates .now) (a .fates .now) (a .list .now) (a .list .now)
+    made-reading (lent (a .h) (a .times .now) (a .tags .now)) (a .t2) (a .stamps) (a .t4) (a .frames .now) (a .fates .now) (a .fates .now) (a .list .now) (a .list .now)
     (k .read-settings .result) (c .read-step .result) (t .if3 .taken) (k .read-settings .ensures) (c .read-step .ensures)
 
 ranges-step-requires : tie.Need-ranges-step-requires
@@ -65,10 +65,26 @@ same-length-2 c = search needs
 returns-4 : tie.Need-returns-4
 returns-4 c =
     let l = c .before in
-    let e = l .before .before .before .before in
+    let t = l .before .before .before .before in
+    let e = t .before in
     let a = e .before .before .before .args in
-    made-ranges (lent (a .h) (a .times .now) (a .tags .now)) (a .t2) (a .stamps) (a .t4) (a .fates .now) (a .fates .now) (a .list .now) (l .ranges-step .last .1 .1 .1 .1 .0)
-    (l .ranges-step .result) (e .before .if2 .left) (e .if3 .left) (l .ranges-step .ensures)
+    made-ranges (lent (a .h) (a .times .now) (a .tags .now)) (a .t2) (a .stamps) (a .t4) (a .frames .now) (a .fates .now) (a .fates .now) (a .list .now) (l .ranges-step .last .1 .1 .1 .1 .0)
+    (e .before .if2 .left) (e .if3 .left) (l .ranges-step .result) (t .if4 .taken) (l .ranges-step .ensures)
+
+batch-step-requires : tie.Need-batch-step-requires
+batch-step-requires c κs = search needs
+
+same-length-3 : tie.Need-same-length-3
+same-length-3 c = search needs
+
+returns-5 : tie.Need-returns-5
+returns-5 c =
+    let l = c .before in
+    let t = l .before .before .before .before in
+    let e = t .before in
+    let a = e .before .before .before .args in
+    made-batch (lent (a .h) (a .times .now) (a .tags .now)) (a .t2) (a .stamps) (a .t4) (a .frames .now) (a .fates .now) (l .batch-step .last .1 .1 .1 .1 .0) (a .list .now) (a .list .now)
+    (e .before .if2 .left) (e .if3 .left) (l .batch-step .result) (l .batch-step .last .1 .1 .0) (l .batch-step .last .1 .1 .1 .0) (t .if4 .left) (l .batch-step .ensures)
 
 pub make-call-spec : {M : Type 1} → statement M
 make-call-spec =
@@ -88,4 +104,7 @@ make-call-spec =
     returns-3
     ranges-step-requires
     same-length-2
-    returns-4)
+    returns-4
+    batch-step-requires
+    same-length-3
+    returns-5)

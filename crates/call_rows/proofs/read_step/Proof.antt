@@ -12,8 +12,14 @@ use Rattle.call_rows.proofs.read_step.Tie as tie
 enum-known-answer : tie.Need-enum-known-answer
 enum-known-answer c = search needs
 
+step-with-requires : tie.Need-step-with-requires
+step-with-requires c κs = search needs
+
 enum-known-answer-2 : tie.Need-enum-known-answer-2
 enum-known-answer-2 c = search needs
+
+step-with-requires-2 : tie.Need-step-with-requires-2
+step-with-requires-2 c κs = search needs
 
 enum-known-answer-3 : tie.Need-enum-known-answer-3
 enum-known-answer-3 c = search needs
@@ -26,18 +32,20 @@ plain-step-requires c κs = search needs
 
 returns : tie.Need-returns
 returns c =
-    let s = c .before .before .before in
-    let g = c .before .answer .given in
+    let k = c .before in
+    let s = k .before .before .before in
+    let g = k .before .answer .given in
     let e : Bounded (g .0 .0) (g .0 .1 .0) (g .0 .1 .1 .0) ≡ s .args .answer = sym (g .1) in
-    ap (λ (a : Read). readStep a (s .args .h)) e
+    c .step-with .ensures ∙ ap (λ (a : Read). readStep a (s .args .h)) e
 
 returns-2 : tie.Need-returns-2
 unfolding ofBits
 returns-2 c =
-    let s = c .before .before .before in
-    let g = c .before .answer2 .given in
+    let k = c .before in
+    let s = k .before .before .before in
+    let g = k .before .answer2 .given in
     let e : Unbounded (g .0 .0) (g .0 .1 .0) ≡ s .args .answer = sym (g .1) in
-    ap (λ (a : Read). readStep a (s .args .h)) e
+    c .step-with2 .ensures ∙ ap (λ (a : Read). readStep a (s .args .h)) e
 
 returns-3 : tie.Need-returns-3
 returns-3 c =
@@ -51,7 +59,9 @@ read-step-spec =
     tie.close
     (tie.spec
     enum-known-answer
+    step-with-requires
     enum-known-answer-2
+    step-with-requires-2
     enum-known-answer-3
     number-of-requires
     plain-step-requires

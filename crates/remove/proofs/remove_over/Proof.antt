@@ -99,7 +99,7 @@ take-out-requires c κs =
       order (a .h) (a .times .now) (a .tags .now) w,
       on-tracks (a .h) (a .times .now) (a .tags .now) w,
       omega arith,
-      s .pre .1,
+      omega (arith, l .nframes, s .pre .1),
       f .first-in .ensures .inside,
       f .first-in .ensures .before,
     )

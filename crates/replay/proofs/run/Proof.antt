@@ -5,10 +5,10 @@ use Rattle.replay.proofs.run.Statement.{statement}
 use Rattle.replay.proofs.run.Tie as tie
 
 abbrev Inv-loop : tie.InvT-loop
-Inv-loop chunk₀ line₀ times₀ tags₀ second_times₀ second_tags₀ saved_times₀ saved_tags₀ s₀ r₀ turns₀ chunk line times tags second_times second_tags saved_times saved_tags s r turns = (r .from ≤ r .to) × (r .to ≤ 4096)
+Inv-loop chunk₀ line₀ rows₀ times₀ tags₀ second_times₀ second_tags₀ saved_times₀ saved_tags₀ s₀ r₀ turns₀ chunk line rows times tags second_times second_tags saved_times saved_tags s r turns = (r .from ≤ r .to) × (r .to ≤ 4096)
 
 abbrev μ-loop : tie.MeasureT-loop
-μ-loop chunk₀ line₀ times₀ tags₀ second_times₀ second_tags₀ saved_times₀ saved_tags₀ s₀ r₀ turns₀ chunk line times tags second_times second_tags saved_times saved_tags s r turns = turns
+μ-loop chunk₀ line₀ rows₀ times₀ tags₀ second_times₀ second_tags₀ saved_times₀ saved_tags₀ s₀ r₀ turns₀ chunk line rows times tags second_times second_tags saved_times saved_tags s r turns = turns
 
 fresh-requires : tie.Need-fresh-requires Inv-loop μ-loop
 fresh-requires c κs = search needs
@@ -33,6 +33,9 @@ on-line-requires c κs = search needs
 
 on-line-requires-2 : tie.Need-on-line-requires-2 Inv-loop μ-loop
 on-line-requires-2 c κs = search needs
+
+cut-short-requires : tie.Need-cut-short-requires Inv-loop μ-loop
+cut-short-requires c κs = search needs
 
 returns : tie.Need-returns Inv-loop μ-loop
 returns c = search needs
@@ -60,6 +63,7 @@ run-spec =
     part-requires
     on-line-requires
     on-line-requires-2
+    cut-short-requires
     returns
     loop-less
     loop-again

@@ -1,10 +1,12 @@
 //! Builds that are wrong in one thing each: the paper's idle ones, and the errors it has met.
-//! Every one of them must be told from `second` within a few scripts or segments.
+//! Every one of them must be told from `second` within a few scripts, segments or lists of rows.
 
+mod batches;
 mod segments;
 
+use batches::WrongBatch;
 use differential::{run, Failure, Plan};
-use script::{Declined, Poke, Second, Subject};
+use script::{Batch, Declined, Poke, Second, Subject};
 use second::{
     micros, Branch, Fate, Frame, Maybe, Mode, Offered, Reading, Row, SegmentTrack, State, Stretch,
     Trace, SECONDS_LIMIT,
@@ -30,6 +32,7 @@ enum Wrong {
     SparesTheGroup,
     AcceptsDamage,
     DeclinesPokes,
+    Batch(WrongBatch),
     Segment(WrongSegment),
 }
 
@@ -113,6 +116,18 @@ impl Subject for Build {
             _ => {}
         }
         result
+    }
+
+    fn append_batch(
+        &mut self,
+        state: &mut State,
+        frames: &[Row],
+        fates: &mut [Fate],
+    ) -> Result<Batch, u32> {
+        match self.wrong {
+            Wrong::Batch(wrong) => wrong.append(state, frames, fates),
+            _ => self.second.append_batch(state, frames, fates),
+        }
     }
 
     fn remove(
@@ -249,14 +264,16 @@ fn first_pass_only(
 }
 
 fn put_to(wrong: Wrong) -> Result<(), Failure> {
-    let (scripts, segments) = match wrong {
-        Wrong::Segment(_) => (0, 3_000),
-        _ => (3_000, 0),
+    let (scripts, segments, rows) = match wrong {
+        Wrong::Segment(_) => (0, 3_000, 0),
+        Wrong::Batch(wrong) if wrong.shows_in_rows() => (0, 0, 3_000),
+        _ => (3_000, 0, 0),
     };
     let plan = Plan {
         seed: 0,
         scripts,
         segments,
+        rows,
     };
     let mut one: Second = Second::default();
     run(plan, &mut one, &mut Build::new(wrong)).map(|_| ())
@@ -282,6 +299,15 @@ fn every_wrong_build_is_caught_by_a_short_script() {
         Wrong::AcceptsDamage,
     ] {
         let failure = put_to(wrong).expect_err("a difference");
+        println!("{wrong:?}: {failure}\n");
+        assert!(failure.script.len() <= 8, "{wrong:?}: {failure}");
+    }
+}
+
+#[test]
+fn every_wrong_batch_is_caught_by_a_short_script() {
+    for wrong in WrongBatch::ALL {
+        let failure = put_to(Wrong::Batch(wrong)).expect_err("a difference");
         println!("{wrong:?}: {failure}\n");
         assert!(failure.script.len() <= 8, "{wrong:?}: {failure}");
     }

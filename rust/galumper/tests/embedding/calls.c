@@ -1,4 +1,4 @@
-// Makes every call of the header, and tells what it answered and what it left.
+// Makes every call of the header that has no program of its own beside this one, and tells what it answered and what it left.
 #include "galumper.h"
 
 #include <inttypes.h>

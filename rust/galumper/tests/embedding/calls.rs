@@ -1,4 +1,4 @@
-//! Every call of the header reaches the function of its name, with the arguments in their places,
+//! Every call of `calls.c` reaches the function of its name, with the arguments in their places,
 //! and keeps what that hands back; a list of no places may be null; a refused creation leaves the
 //! buffer that was there.
 

@@ -3,16 +3,18 @@
 use std::fs;
 use std::mem::{offset_of, size_of};
 
-use galumper::{Cause, Kind, Mode, Refusal, FATES, PLACES, RANGES, SIZE, TRACKS};
+use galumper::{
+    Cause, Kind, Mode, Refusal, BATCH, BATCH_FATES, FATES, PLACES, RANGES, SIZE, TRACKS,
+};
 
 use crate::compiler::{build, folder, include, source, written_watched};
 
-fn header() -> String {
+pub fn header() -> String {
     fs::read_to_string(include().join("galumper.h")).expect("a header")
 }
 
 /// The number that the header gives a name, as an enumerator or as a macro.
-fn number(header: &str, name: &str) -> usize {
+pub fn number(header: &str, name: &str) -> usize {
     let forms = [format!("    {name} = "), format!("#define {name} ")];
     let after = forms.iter().find_map(|form| header.split(form).nth(1));
     let digits = after.and_then(|text| text.split(|c: char| !c.is_ascii_digit()).next());
@@ -39,6 +41,8 @@ fn every_number_is_the_bindings() {
         ("GALUMPER_PLACES", PLACES),
         ("GALUMPER_TRACKS", TRACKS),
         ("GALUMPER_FATES", FATES),
+        ("GALUMPER_BATCH", BATCH),
+        ("GALUMPER_BATCH_FATES", BATCH_FATES),
         ("GALUMPER_RANGES", RANGES),
         ("GALUMPER_VIDEO", Kind::VIDEO.0.into()),
         ("GALUMPER_AUDIO", Kind::AUDIO.0.into()),
@@ -56,6 +60,7 @@ fn every_number_is_the_bindings() {
         ("GALUMPER_SHORT_LIST", refusal(Refusal::ShortList)),
         ("GALUMPER_KINDS", refusal(Refusal::Kinds)),
         ("GALUMPER_MALFORMED", refusal(Refusal::Malformed)),
+        ("GALUMPER_LENT_SIZE", refusal(Refusal::LentSize)),
         ("GALUMPER_BEFORE_WINDOW", cause(Cause::BEFORE_WINDOW)),
         ("GALUMPER_AFTER_WINDOW", cause(Cause::AFTER_WINDOW)),
         ("GALUMPER_NEEDS_POINT", cause(Cause::NEEDS_POINT)),

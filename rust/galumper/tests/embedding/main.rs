@@ -1,7 +1,9 @@
 //! What programs in C and C++ meet: the programs of `docs/EMBEDDING.md`, and the header.
 
+mod batch;
 mod calls;
 mod compiler;
+mod document;
 mod flags;
 mod header;
 mod held;

@@ -6,24 +6,26 @@ use std::process::Command;
 use std::{env, fs};
 
 use crate::compiler::{folder, include, output, released, repository, watched};
+use crate::document::document;
 
-/// A program: its name, the segment that it reads, and what it writes.
+/// A program: its name, and its runs, each by the segments that it reads and what it writes.
 struct Program {
     name: &'static str,
-    segment: Option<&'static str>,
-    writes: &'static str,
+    runs: &'static [(&'static [&'static str], &'static str)],
 }
 
-const PROGRAMS: [Program; 2] = [
+const PROGRAMS: [Program; 3] = [
     Program {
         name: "console",
-        segment: None,
-        writes: CONSOLE,
+        runs: &[(&[], CONSOLE)],
     },
     Program {
         name: "segment",
-        segment: Some("rust/segments/cases/dash.m4s"),
-        writes: SEGMENT,
+        runs: &[(&["dash.m4s"], SEGMENT)],
+    },
+    Program {
+        name: "line",
+        runs: &[(&["long.m4s"; 20], LINE), (&["long.m4s"], ONCE)],
     },
 ];
 
@@ -44,6 +46,18 @@ const SEGMENT: &str = "\
 held from 560000 to 1040000
 ";
 
+const LINE: &str = "\
+full after 1024 frames: 300 before second 10 go
+full after 1324 frames: 225 before second 20 go
+1500 frames, 975 of them stored
+held from 21080000 to 60080000
+";
+
+const ONCE: &str = "\
+75 frames, 75 of them stored
+held from 80000 to 3080000
+";
+
 fn example(name: &str) -> PathBuf {
     Path::new(env!("CARGO_MANIFEST_DIR"))
         .join("examples")
@@ -52,9 +66,13 @@ fn example(name: &str) -> PathBuf {
 
 impl Program {
     /// A built one is run, and writes what it shall.
-    fn runs(&self, mut built: Command) {
-        built.args(self.segment.map(|file| repository().join(file)));
-        assert_eq!(output(&mut built), self.writes);
+    fn runs(&self, built: Command) {
+        let cases = repository().join("rust/segments/cases");
+        for (segments, writes) in self.runs {
+            let mut run = Command::new(built.get_program());
+            run.args(segments.iter().map(|file| cases.join(file)));
+            assert_eq!(output(&mut run), *writes);
+        }
     }
 
     /// Its source in a language of the header.
@@ -87,7 +105,7 @@ fn in_rust() {
 
 #[test]
 fn the_document_has_them_word_for_word() {
-    let document = fs::read_to_string(repository().join("docs/EMBEDDING.md")).expect("a document");
+    let document = document();
     for program in PROGRAMS {
         for ending in ["c", "cpp", "rs"] {
             let name = format!("{}.{ending}", program.name);
@@ -95,11 +113,9 @@ fn the_document_has_them_word_for_word() {
             assert!(document.contains(&source), "{name}");
             assert!(source.lines().count() < 80, "{name} is long");
         }
-        let lines = program.writes.lines().map(|line| format!("    {line}\n"));
-        assert!(
-            document.contains(&lines.collect::<String>()),
-            "what {} writes",
-            program.name
-        );
+        for (_, writes) in program.runs {
+            let lines = writes.lines().map(|line| format!("    {line}\n"));
+            assert!(document.contains(&lines.collect::<String>()), "{writes}");
+        }
     }
 }

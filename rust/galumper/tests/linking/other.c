@@ -4,7 +4,7 @@
 #include <stdlib.h>
 
 uint32_t galumper_abi(void) {
-    return 4;
+    return 5;
 }
 
 size_t galumper_size(void) {
@@ -17,6 +17,7 @@ size_t galumper_size(void) {
     }
 ENDS(create)
 ENDS(append)
+ENDS(append_batch)
 ENDS(remove)
 ENDS(abort)
 ENDS(set_segments)

@@ -2,16 +2,17 @@
 
 #![forbid(unsafe_code)]
 
-use std::io::{self, BufRead, BufWriter, Write};
+use std::io::{self, BufWriter, Write};
 
-use script::{Second, Session};
+use script::{calls, Second, Session};
 
 fn main() -> io::Result<()> {
+    let script = io::read_to_string(io::stdin())?;
     let mut subject: Second = Second::default();
     let mut session = Session::new(&mut subject);
     let mut answers = BufWriter::new(io::stdout().lock());
-    for line in io::stdin().lock().lines() {
-        if let Some(answer) = session.answer(&line?) {
+    for call in calls(script.lines()) {
+        if let Some(answer) = session.answer(&call) {
             writeln!(answers, "{answer}")?;
         }
     }

@@ -1,5 +1,7 @@
-//! The library lists the segments of `cases` as ffprobe does: `README.md` says how both were made.
+//! The library lists the segments of `cases` as ffprobe does, and what is listed goes into the buffer:
+//! `README.md` says how segments and texts were made.
 
+mod appended;
 mod told;
 
 use std::fs;

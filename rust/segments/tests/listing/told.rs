@@ -45,7 +45,7 @@ pub fn cases() -> Vec<Case> {
     let paths = files.map(|file| file.expect("a file").path());
     let texts = paths.filter(|path| path.extension().is_some_and(|end| end == "txt"));
     let case = |path: PathBuf| Case {
-        name: path.display().to_string(),
+        name: path.file_stem().expect("a name").display().to_string(),
         segment: fs::read(path.with_extension("m4s")).expect("a segment"),
         tracks: tracks(&fs::read_to_string(&path).expect("a text")),
     };
