@@ -17,7 +17,7 @@ use Rattle.buffer_laws.proofs.RowLaws.{frames-back, times-length, tags-length}
 use Rattle.places.specs.Places.{Holding}
 
 abbrev pub Insertable : ℕ → List (List ℤ) → List (List ℕ) → Type 0
-Insertable n ts gs = (n < 1024) × Lengths ts gs × Holding ts gs n × (sorted (take n (framesOf ts gs)) ≡ true)
+Insertable n ts gs = (n < places) × Lengths ts gs × Holding ts gs n × (sorted (take n (framesOf ts gs)) ≡ true)
 
 module _ (l : List Frame) where
   abbrev array : List Frame
@@ -26,7 +26,7 @@ module _ (l : List Frame) where
   first-back : take (length l) (framesOf (timesOf array) (tagsOf array)) ≡ l
   first-back = ap (take (length l)) (frames-back array) ∙ take-append-seam l _
 
-  held : length l < 1024 → sorted l ≡ true → Insertable (length l) (timesOf array) (tagsOf array)
+  held : length l < places → sorted l ≡ true → Insertable (length l) (timesOf array) (tagsOf array)
   held h s =
       let long : length array ≡ places = padded-length places zeroFrame l (omega arith) in (
         h,
@@ -43,7 +43,7 @@ module _ (l : List Frame) where
     pub held-first : take n (framesOf ts gs) ≡ l
     held-first = (λ j. take (e j) (framesOf (p j) (q j))) ∙ first-back
 
-    pub held-insertable : length l < 1024 → sorted l ≡ true → Insertable n ts gs
+    pub held-insertable : length l < places → sorted l ≡ true → Insertable n ts gs
     held-insertable h s =
         subst (λ (x : List (List ℕ)). Insertable n ts x) (sym q)
         (subst (λ (x : List (List ℤ)). Insertable n x (tagsOf array)) (sym p)

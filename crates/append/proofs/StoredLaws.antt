@@ -19,7 +19,7 @@ use Rattle.buffer_state.specs.Append.{Pass, needing, overlapMarks, stepNine, st
 use Rattle.buffer_state.specs.Buffer.{Buffer}
 use Rattle.buffer_state.specs.Layout.{bufferOf}
 use Rattle.buffer_state.specs.Lent.{framesOf, stateAt, headOf, wellFormedAt}
-use Rattle.buffer_state.specs.Limits.{resultTime}
+use Rattle.buffer_state.specs.Limits.{resultTime, places}
 use Rattle.buffer_state.specs.Store.{kept}
 use Rattle.buffer_state.specs.WellFormed.{goodFrame}
 use Rattle.buffer_laws.proofs.GoodLaws.{Good, good-facts, frame-facts}
@@ -88,7 +88,7 @@ stored-count q = insert-length (storedAs (nextNumber (q .buffer)) (q .frame)) (k
 
 -- where a frame goes, a place is freed
 pub freed : (spans : List Span) (n first : ℕ) (ts : List (List ℤ)) (gs : List (List ℕ)) → Stored n ts gs
-    → FirstIn (inSpans spans) (take n (framesOf ts gs)) n first → first < n → length (kept (overlapAt spans n ts gs)) < 1024
+    → FirstIn (inSpans spans) (take n (framesOf ts gs)) n first → first < n → length (kept (overlapAt spans n ts gs)) < places
 freed spans n first ts gs s f h =
     let fs : List Frame = framesOf ts gs in
     let long = frames-length ts gs (s .long .0 ∙ sym (s .long .1)) in

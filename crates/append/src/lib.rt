@@ -24,7 +24,10 @@ use buffer_state::Counted;
 use buffer_state::Frame;
 use buffer_state::Head;
 use buffer_state::Offered;
+use buffer_state::PLACES;
 use buffer_state::Refusal;
+use buffer_state::Tags;
+use buffer_state::Times;
 use buffer_state::Track;
 use heads::Passed;
 use heads::Steady;
@@ -32,8 +35,6 @@ use taking::Span;
 use taking::Taken;
 
 const LAST_NUMBER: u32 = 4294967295;
-
-const PLACES: usize = 1024; // in the store, and lines that a lent fate list needs
 
 const PAST_LIMITS: i64 = 4000000000001; // the first microsecond past the limits
 
@@ -124,7 +125,7 @@ fn first_overlapped(
 
 // A frame that overlaps nothing takes its place. The head after it.
 pub fn put_next(h: Head, g: Offered, times: &mut [[i64; 2]], tags: &mut [[u32; 4]]) -> Head
-    requires { ⌜ Ready h (now times) (now tags) g × (h .nframes < 1024) ⌝ }
+    requires { ⌜ Ready h (now times) (now tags) g × (h .nframes < places) ⌝ }
     ensures head { λ r. ⌜ r ≡ headOf (stepNine (storingAt h (now (times .entry)) (now (tags .entry)) g) (take (h .nframes) (framesOf (now (times .entry)) (now (tags .entry))))) ⌝ }
     ensures times { λ r. ⌜ now (times .exit) ≡ timesIn (stepNine (storingAt h (now (times .entry)) (now (tags .entry)) g) (take (h .nframes) (framesOf (now (times .entry)) (now (tags .entry))))) ⌝ }
     ensures tags { λ r. ⌜ now (tags .exit) ≡ tagsIn (stepNine (storingAt h (now (times .entry)) (now (tags .entry)) g) (take (h .nframes) (framesOf (now (times .entry)) (now (tags .entry))))) ⌝ }
@@ -230,7 +231,7 @@ fn has_track(n: u32, tracks: usize) -> bool
 }
 
 // Whether a frame goes on from where its track stands: nothing of the head changes before step 9, and the frame is stored and overlaps
-// nothing. The frame is that after step 2.
+// nothing. The frame is that after step 2. Where it says no, nothing is known, and all the steps are taken.
 pub fn follows(h: Head, f: Offered, bound: Bound) -> Steady
     requires { ⌜ GoodHead h ⌝ }
     ensures { λ r. ⌜ ((b : Buffer) → h ≡ headOf b → r .ok ≡ true → Follows b f (r .frame) (bound .micros)) ⌝ }
@@ -324,8 +325,8 @@ pub fn append_tested(
 pub fn append(
     h: Head,
     f: Offered,
-    times: &mut [[i64; 2]; 1024],
-    tags: &mut [[u32; 4]; 1024],
+    times: &mut Times,
+    tags: &mut Tags,
     fates: &mut [[u32; 2]],
 ) -> Counted
     ensures answer { λ r. ⌜ r ≡ counted h (appendResult (length (now (fates .entry))) f h (now (times .entry)) (now (tags .entry))) ⌝ }

@@ -1,13 +1,14 @@
 -- From frame to frame of a batch: the state that an accepted frame leaves, the lines joined, and what a batch that ends here comes to.
 use mathlib.Core.Path.{_≡_, refl, sym, ap, subst, _∙_}
 use mathlib.Core.Bool.{Bool, true, false}
-use mathlib.Core.List.{List, [], _∷_, _++_, append-nil, append-assoc, map}
-use Prim.Native.Nat.{ℕ, zero, suc, _+_, _≤_, _<_}
+use mathlib.Core.List.{List, [], _∷_, _++_, append-nil, append-assoc, map, map-append}
+use Prim.Native.Nat.{ℕ, suc, _+_, _≤_, _<_}
 use native.Mathlib.Nat.{add-zero}
+use native.Mathlib.Numerals.{add-one}
 use native.Mathlib.Omega.{arith}
 use lib.IntN.{ℤ}
-use lib.ListN.{length, take, drop, getD, length-append, length-map, length-drop, take-append-drop}
-use lib.Seq.{take-at, drop-at, drop-drop}
+use lib.ListN.{length, take, drop, getD, length-append, length-map, length-drop, take-append-drop, List·getD-map}
+use lib.Seq.{drop-cons, take-at, drop-at, drop-drop}
 use lib.Signed.{leZ}
 use Rattle.laws.proofs.BoolLaws.{clash}
 use Rattle.buffer_state.specs.declared.Batched.{Batched}
@@ -19,7 +20,7 @@ use Rattle.buffer_state.specs.declared.Stop.{Stop}
 use Rattle.buffer_state.specs.declared.Stop.the-variants.{Nothing, By}
 use Rattle.buffer_state.specs.Answers.{counted, timesAfter, tagsAfter, written, listAfter, appendResult, batched}
 use Rattle.buffer_state.specs.Append.{Outcome, append}
-use Rattle.buffer_state.specs.Batch.{Batch, offeredIn, ended, onward, following, appendEach}
+use Rattle.buffer_state.specs.Batch.{Batch, offeredIn, ended, onward, following, appendEach, mostFrames, batchLines}
 use Rattle.buffer_state.specs.Buffer.{Buffer, trackOf}
 use Rattle.buffer_state.specs.Layout.{bufferOf}
 use Rattle.buffer_state.specs.Lent.{stateAt, headOf, timesIn, tagsIn, wellFormedAt}
@@ -42,17 +43,10 @@ use Rattle.batch.proofs.BoundLaws.{accepted-from, accepted-to, after-bo
 -- ---- the rows
 
 pub rows-next : (rows : List (List ℤ)) (i : ℕ) → i < length rows → drop i (map offeredIn rows) ≡ offeredIn (getD rows i []) ∷ drop (i + 1) (map offeredIn rows)
-rows-next [] i h = absurd (omega arith)
-rows-next (r ∷ rows) zero h = refl
-rows-next (r ∷ rows) (suc i) h =
-    let e : suc i + 1 ≡ suc (i + 1) = omega arith in
-    rows-next rows i (omega arith) ∙ ap (λ (k : ℕ). offeredIn (getD rows i []) ∷ drop k (map offeredIn (r ∷ rows))) (sym e)
-
-pub rows-end : (rows : List (List ℤ)) (i : ℕ) → length rows ≤ i → drop i (map offeredIn rows) ≡ []
-rows-end [] zero h = refl
-rows-end [] (suc i) h = refl
-rows-end (r ∷ rows) zero h = absurd (omega arith)
-rows-end (r ∷ rows) (suc i) h = rows-end rows i (omega arith)
+rows-next rows i h =
+    let inside : i < length (map offeredIn rows) = rw length-map h in
+    let first = List·getD-map offeredIn rows i [] in
+    rw (add-one) (drop-cons (map offeredIn rows) i (offeredIn []) inside ∙ ap (λ (f : Offered). f ∷ drop (suc i) (map offeredIn rows)) first)
 
 -- ---- the lines
 
@@ -61,17 +55,13 @@ module _ (told more : List Line) (before : List (List ℕ)) (at : ℕ) (count : 
   told-length : length (written told) ≡ at
   told-length = length-map told _ ∙ sym count
 
-  written-more : (xs ys : List Line) → written xs ++ written ys ≡ written (xs ++ ys)
-  written-more [] ys = refl
-  written-more (x ∷ xs) ys = ap (λ (l : List (List ℕ)). (x .number ∷ x .cause ∷ []) ∷ l) (written-more xs ys)
-
   lines-joined : let list = written told ++ drop at before in take at list ++ (written more ++ drop (length more) (drop at list))
       ≡ written (told ++ more) ++ drop (at + length more) before
   lines-joined =
       let front = take-at (written told) (drop at before) at told-length in
       let rest = ap (drop (length more)) (drop-at (written told) (drop at before) at told-length) ∙ drop-drop (length more) at before in
       (λ j. front j ++ (written more ++ rest j)) ∙ sym (append-assoc (written told) (written more) (drop (at + length more) before))
-      ∙ ap (λ (l : List (List ℕ)). l ++ drop (at + length more) before) (written-more told more)
+      ∙ ap (λ (l : List (List ℕ)). l ++ drop (at + length more) before) (sym (map-append _ told more))
 
 -- ---- a batch with one frame more accepted
 
@@ -87,9 +77,9 @@ abbrev pub isDone : Count → Bool
 isDone (Count.Done n) = true
 isDone (Count.Refused why) = false
 
-abbrev linesIn : Count → ℕ
-linesIn (Count.Done n) = n
-linesIn (Count.Refused why) = 0
+abbrev countIn : Count → ℕ
+countIn (Count.Done n) = n
+countIn (Count.Refused why) = 0
 
 -- ---- before the first frame
 
@@ -120,7 +110,7 @@ module _ (b : Buffer) (fs : List Offered) (lines₀ : List (List ℕ)) (i : ℕ)
       omega (arith, g .count, ap length (g .list), length-append (written (g .told)) (drop at lines₀), length-map (g .told) (λ (l : Line). l .number ∷ l .cause ∷ []), length-drop at lines₀)
 
   -- there is a line for each stored frame, and one more
-  pub room-left : length fs ≤ 64 → 1088 ≤ length lines₀ → length (b .frames) ≤ 1024 → i < length fs → at + h .nframes < length lines
+  pub room-left : length fs ≤ mostFrames → batchLines ≤ length lines₀ → length (b .frames) ≤ places → i < length fs → at + h .nframes < length lines
   room-left few long stored inside =
       omega (arith, g .room, same-lines (omega (arith, g .room)))
 
@@ -183,7 +173,7 @@ module _ (b : Buffer) (fs : List Offered) (lines₀ : List (List ℕ)) (i : ℕ)
     pub lines-few : (x : Result Outcome) → append places f held ≡ x → (n : ℕ) → counted h x .answer ≡ Count.Done n → n ≤ h .nframes + 1
     lines-few (refused why) e n d = clash (sym (ap isDone d))
     lines-few (done o) e n d =
-        let told : length (o .lines) ≡ n = ap linesIn d in
+        let told : length (o .lines) ≡ n = ap countIn d in
         omega (arith, told, append-count held f places o e, held-count h ts gs (g .whole))
 
     pub track-kept : (x : Result Outcome) → append places f held ≡ x → (n : ℕ) → counted h x .answer ≡ Count.Done n → {k : Head} → k ≡ counted h x .head → HasTrack k (f .track)
@@ -206,7 +196,7 @@ module _ (b : Buffer) (fs : List Offered) (lines₀ : List (List ℕ)) (i : ℕ)
     goes (done o) e n d {h′} {ts′} {gs′} {bounds′} {lines′} p q r t up high =
         let good = append-good held f places o e (lent-good h ts gs (g .whole)) in
         let back : bufferOf (stateAt h′ ts′ gs′) ≡ o .after = (λ j. bufferOf (stateAt (p j) (q j) (r j))) ∙ held-back (o .after) in
-        let told : length (o .lines) ≡ n = ap linesIn d in
+        let told : length (o .lines) ≡ n = ap countIn d in
         let stored : h′ .nframes ≡ length (o .after .frames) = ap (λ (k : Head). k .nframes) p in
         record {
           whole = (λ j. wellFormedAt (p j) (q j) (r j)) ∙ laid-well-formed (o .after) good;

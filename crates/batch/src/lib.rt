@@ -8,7 +8,7 @@ ghost use lib.IntN.{pos, _+ℤ_};
 ghost use lib.ListN.{length, take, drop};
 ghost use lib.Signed.{leZ};
 ghost use Rattle.buffer_state.specs.Answers.{counted, timesAfter, tagsAfter, listAfter, appendResult, batched, outcomeOf, batchResult};
-ghost use Rattle.buffer_state.specs.Batch.{fieldIn, isFlag, offeredIn};
+ghost use Rattle.buffer_state.specs.Batch.{fieldIn, isFlag, offeredIn, mostFrames, batchLines};
 ghost use Rattle.buffer_state.specs.Buffer.{Buffer, trackOf};
 ghost use Rattle.buffer_state.specs.Lent.{framesOf, headOf, wellFormedAt};
 ghost use Rattle.buffer_state.specs.Limits.{resultTime, places};
@@ -24,12 +24,15 @@ use buffer_state::Count;
 use buffer_state::Counted;
 use buffer_state::Head;
 use buffer_state::Offered;
+use buffer_state::PLACES;
 use buffer_state::Refusal;
 use buffer_state::Stop;
+use buffer_state::Tags;
+use buffer_state::Times;
 
 const MOST_FRAMES: usize = 64;
 
-const LINES: usize = 1088; // a line for each frame that can be stored, and for each of a batch
+const LINES: usize = PLACES + MOST_FRAMES; // a line for each frame that can be stored, and for each of a batch
 
 // ---- a row as an offered frame
 
@@ -191,7 +194,7 @@ fn append_each(
     tags: &mut [[u32; 4]],
     fates: &mut [[u32; 2]],
 ) -> Batched
-    requires { ⌜ (wellFormedAt start (now times) (now tags) ≡ true) × (length (now frames) ≤ 64) × (1088 ≤ length (now fates)) ⌝ }
+    requires { ⌜ (wellFormedAt start (now times) (now tags) ≡ true) × (length (now frames) ≤ mostFrames) × (batchLines ≤ length (now fates)) ⌝ }
     ensures answer { λ r. ⌜ r ≡ batched start (eachAt (now (frames .entry)) start (now (times .entry)) (now (tags .entry))) ⌝ }
     ensures times { λ r. ⌜ now (times .exit) ≡ timesAfter (outcomeOf (eachAt (now (frames .entry)) start (now (times .entry)) (now (tags .entry)))) (now (times .entry)) ⌝ }
     ensures tags { λ r. ⌜ now (tags .exit) ≡ tagsAfter (outcomeOf (eachAt (now (frames .entry)) start (now (times .entry)) (now (tags .entry)))) (now (tags .entry)) ⌝ }
@@ -208,6 +211,7 @@ fn append_each(
         let k = track as usize;
         let bound = bound_of(bounds, track);
         let s = append::follows(h, f, bound);
+        // Each arm ends the turn itself: where they met, what is known of each would be lost.
         if s.ok {
             let g = s.frame;
             let next = append::put_next(h, g, times, tags);
@@ -247,8 +251,8 @@ fn refuse(h: Head, why: Refusal) -> Batched
 pub fn append_batch(
     h: Head,
     frames: &[[i64; 6]],
-    times: &mut [[i64; 2]; 1024],
-    tags: &mut [[u32; 4]; 1024],
+    times: &mut Times,
+    tags: &mut Tags,
     fates: &mut [[u32; 2]],
 ) -> Batched
     ensures answer { λ r. ⌜ r ≡ batched h (batchResult (length (now (fates .entry))) (map offeredIn (now (frames .entry))) h (now (times .entry)) (now (tags .entry))) ⌝ }

@@ -3,6 +3,8 @@ use mathlib.Core.Bool.{Bool, cond}
 use Prim.Native.Nat.{ℕ}
 use Rattle.buffer_state.specs.declared.Refusal.{Refusal}
 use Rattle.buffer_state.specs.declared.Refusal.the-variants.{IllFormed, ShortFates, NoTrack, FrameLimits, Seconds, Order, ResultLimits, Full, LastNumber, ShortList, Kinds, Malformed, LentSize}
+use Rattle.buffer_state.specs.declared.Stop.{Stop}
+use Rattle.buffer_state.specs.declared.Stop.the-variants.{Nothing, By}
 
 -- The table. The calls' own definitions say exactly when each is given, and in which order.
 abbrev pub refusalNumber : Refusal → ℕ
@@ -19,6 +21,11 @@ refusalNumber ShortList = 10
 refusalNumber Kinds = 11
 refusalNumber Malformed = 12
 refusalNumber LentSize = 13
+
+-- of what stopped a batch: 0 where nothing did
+abbrev pub stopNumber : Stop → ℕ
+stopNumber Nothing = 0
+stopNumber (By why) = refusalNumber why
 
 -- what a call gives: its result, or one refusal
 pub data Result (A : Type 0) : Type 0 where

@@ -1,5 +1,5 @@
--- Document 01, "Soundings to check against": cases A to K in one table, each with its whole outcome, and one proof
--- over all of it; with them two refused calls of L in the midst of a run, two removals of our own, and batches (document 02, No. 2).
+-- Document 01, "Soundings to check against": cases A to K in one table, each with its whole outcome and an equation of its own, and one
+-- proof of all; with them two refused calls of L in the midst of a run, two removals of our own, and batches (document 02, No. 2).
 -- Video, one track, durations 100; R is a flagged frame, P one that is not, both given by presentation and decode time.
 use mathlib.Core.Path.{_≡_, refl}
 use mathlib.Core.Bool.{Bool, true, false}
@@ -18,7 +18,7 @@ use Rattle.buffer_state.specs.declared.Refusal.the-variants.{FrameLimits
 use Rattle.buffer_state.specs.declared.Stop.the-variants.{Nothing, By}
 use Rattle.buffer_state.specs.declared.WindowEnd.the-variants.{Unbounded, At}
 use Rattle.buffer_state.specs.Buffer.{Buffer, fresh, freshTrack, freshSettings}
-use Rattle.buffer_state.specs.Limits.{offeredTime, resultTime, goodDuration}
+use Rattle.buffer_state.specs.Limits.{offeredTime, resultTime, goodDuration, places}
 use Rattle.buffer_state.specs.Refusals.{Result, refused, done}
 use Rattle.buffer_state.specs.Store.{before, insertSorted, followsTaken, walkFrom, kept, Line, linesOf}
 use Rattle.buffer_state.specs.Append.{stepOne, stepTwo, passOf, fits, regrouped, breaks, secondPass, lastPass, leavesLimits, overlapped, overlapMarks, stepNine, stored, settled, appended, offerable, append}
@@ -41,17 +41,17 @@ abbrev offer : Bool → ℕ → ℕ → Offered
 offer flagged p d = record { track = 1; flagged = flagged; duration = 100; pts = pos p; dts = pos d }
 
 abbrev R : ℕ → ℕ → Call
-R p d = appendCall 1024 (offer true p d)
+R p d = appendCall places (offer true p d)
 
 abbrev P : ℕ → ℕ → Call
-P p d = appendCall 1024 (offer false p d)
+P p d = appendCall places (offer false p d)
 
 -- an offered frame that is refused
 abbrev brief : Offered
 brief = record { track = 1; flagged = true; duration = 0; pts = pos 100; dts = pos 100 }
 
 abbrev removing : Float → Float → Call
-removing = removeCall 1024
+removing = removeCall places
 
 -- a stored frame: its number, its flag and its two times
 abbrev frameAt : ℕ → Bool → ℤ → ℤ → Frame
@@ -235,7 +235,7 @@ abbrev caseL : Case
 caseL = record {
   calls =
       R 0 0
-      ∷ appendCall 1024 brief
+      ∷ appendCall places brief
       ∷ offsetCall (double 0x412e_8480_0000_0001)
       ∷ P 100 100
       ∷ [];
@@ -298,21 +298,7 @@ caseP = record {
   ranges = range 0 200 ∷ [];
 }
 
--- The table. K: 0.0078125 gives 7812, 0.0234375 gives 23438, -0.0078125 gives -7812, the smallest positive double gives 0,
--- 1,000,000 gives 1,000,000,000,000.
-abbrev pub table : List Case
-table =
-    caseA ∷ caseB ∷ caseC ∷ caseD ∷ caseE ∷ caseF ∷ caseG ∷ caseH ∷ caseI
-    ∷ caseJ 49 (line 1 1 ∷ []) waiting [] 0 []
-    ∷ caseJ 50 [] (following 50 150) (frame 1 true 50 50 ∷ []) 150 (range 50 150 ∷ [])
-    ∷ caseJ 51 (line 1 2 ∷ []) waiting [] 0 []
-    ∷ caseK 0x3f80_0000_0000_0000 (pos 7812)
-    ∷ caseK 0x3f98_0000_0000_0000 (pos 23438)
-    ∷ caseK 0xbf80_0000_0000_0000 (negℤ (pos 7812))
-    ∷ caseK 0x0000_0000_0000_0001 (pos 0)
-    ∷ caseK 0x412e_8480_0000_0000 (pos 1000000000000)
-    ∷ caseL ∷ caseM ∷ caseN ∷ caseO ∷ caseP
-    ∷ []
+-- ---- the table
 
 -- what the definitions make of a case's calls
 abbrev pub computed : Case → Case
@@ -326,9 +312,60 @@ computed c =
       ranges = rangesOf 1 (end .frames);
     }
 
-pub soundings-hold : map computed table ≡ table
+abbrev pub Holds : Case → Type 0
+Holds c = computed c ≡ c
+
+-- A line for each case, with its letter: where one fails, the error stands at its line in the proof below.
+pub record Table : Type 0 where
+  pub A : Holds caseA
+  pub B : Holds caseB
+  pub C : Holds caseC
+  pub D : Holds caseD
+  pub E : Holds caseE
+  pub F : Holds caseF
+  pub G : Holds caseG
+  pub H : Holds caseH
+  pub I : Holds caseI
+  pub J-early : Holds (caseJ 49 (line 1 1 ∷ []) waiting [] 0 [])
+  pub J-kept : Holds (caseJ 50 [] (following 50 150) (frame 1 true 50 50 ∷ []) 150 (range 50 150 ∷ []))
+  pub J-late : Holds (caseJ 51 (line 1 2 ∷ []) waiting [] 0 [])
+  pub K-half-below : Holds (caseK 0x3f80_0000_0000_0000 (pos 7812))  -- 0.0078125
+  pub K-half-above : Holds (caseK 0x3f98_0000_0000_0000 (pos 23438))  -- 0.0234375
+  pub K-half-negative : Holds (caseK 0xbf80_0000_0000_0000 (negℤ (pos 7812)))  -- -0.0078125
+  pub K-smallest : Holds (caseK 0x0000_0000_0000_0001 (pos 0))  -- the smallest positive double
+  pub K-largest : Holds (caseK 0x412e_8480_0000_0000 (pos 1000000000000))  -- 1,000,000
+  pub L : Holds caseL
+  pub M : Holds caseM
+  pub N : Holds caseN
+  pub O : Holds caseO
+  pub P : Holds caseP
+
+pub soundings-hold : Table
 unfolding tieOf roundOf nearestOf convertible convertibleEnd microsOf secondsOf boundOf sameInt offeredTime resultTime goodDuration before insertSorted followsTaken walkFrom kept linesOf stepOne stepTwo passOf fits regrouped breaks secondPass lastPass leavesLimits overlapped overlapMarks stepNine stored settled appended offerable append appendEach batch farEdge removalMarks afterLoss removed remove aborted modeSet offsetSet windowStartSet windowEndSet joined rangesOf replyTo run lastOf ofBits ofInt div
-soundings-hold = refl
+soundings-hold = record {
+  A = refl;
+  B = refl;
+  C = refl;
+  D = refl;
+  E = refl;
+  F = refl;
+  G = refl;
+  H = refl;
+  I = refl;
+  J-early = refl;
+  J-kept = refl;
+  J-late = refl;
+  K-half-below = refl;
+  K-half-above = refl;
+  K-half-negative = refl;
+  K-smallest = refl;
+  K-largest = refl;
+  L = refl;
+  M = refl;
+  N = refl;
+  O = refl;
+  P = refl;
+}
 
 -- Rows of numbers as offered frames: one that is a frame, then tracks, durations and a flag that no frame can have.
 pub rows-offered : map offeredIn (

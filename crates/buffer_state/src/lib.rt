@@ -3,7 +3,7 @@
 // call does to it is defined in specs/, a file for each section of document 01.
 ghost use mathlib.Core.Path.{_≡_};
 ghost use Rattle.buffer_state.specs.Answers.{counted};
-ghost use Rattle.buffer_state.specs.Refusals.{refusalNumber, refused};
+ghost use Rattle.buffer_state.specs.Refusals.{refusalNumber, stopNumber, refused};
 
 // A coded frame as offered to an append. Times are microseconds.
 pub struct Offered {
@@ -65,6 +65,15 @@ pub struct Settings {
     pub end: WindowEnd,
     pub limit: i64, // the window end in microseconds, zero where there is none
 }
+
+// The places of the store, over all tracks; and the lines that a lent fate list needs, as each stored frame may go.
+pub const PLACES: usize = 1024;
+
+// The stored frames, which the caller lends: a row of times (presentation, decode) and a row of tags (track, flag, duration, number) for
+// each place.
+pub type Times = [[i64; 2]; PLACES];
+
+pub type Tags = [[u32; 4]; PLACES];
 
 // All of a state but its frames.
 pub struct Head {
@@ -159,6 +168,16 @@ pub fn refuse(h: Head, why: Refusal) -> Counted
 pub enum Stop {
     Nothing,
     By(Refusal),
+}
+
+// That refusal's number, 0 where nothing did.
+pub fn stop_number(stop: Stop) -> u32
+    ensures { λ r. ⌜ r ≡ stopNumber stop ⌝ }
+{
+    match stop {
+        Stop::Nothing => 0,
+        Stop::By(why) => refusal_number(why),
+    }
 }
 
 // What a batch answers: how many frames were accepted, how many fate lines were written, and what stopped it.

@@ -2,6 +2,8 @@
 use buffer_state::Answer;
 use buffer_state::Head;
 use buffer_state::Refusal;
+use buffer_state::Tags;
+use buffer_state::Times;
 use call_rows::ABORT;
 use call_rows::APPEND;
 use call_rows::BATCH;
@@ -87,8 +89,8 @@ fn call_at(
     stamps: [i64; 2],
     seconds: [f64; 2],
     frames: &[[i64; 6]],
-    times: &mut [[i64; 2]; 1024],
-    tags: &mut [[u32; 4]; 1024],
+    times: &mut Times,
+    tags: &mut Tags,
     lines: &mut [[u32; 2]],
     at: usize,
     list: &mut [[i64; 2]],
@@ -140,8 +142,8 @@ fn run_from(
     lines: &mut [[u32; 2]],
     list: &mut [[i64; 2]],
     readings: &mut [[f64; 3]],
-    times: &mut [[i64; 2]; 1024],
-    tags: &mut [[u32; 4]; 1024],
+    times: &mut Times,
+    tags: &mut Tags,
 ) -> Ran
     requires { ⌜ Begun (lent start (now times) (now tags)) × (fitsIn (now calls) (now stamps) (now seconds) (now frames) (listsOf (now answers) (now lines) (now list) (now readings) (now times) (now tags)) ≡ true) ⌝ }
     ensures { λ r. ⌜ Replayed (bufferIn (lent start (now (times .entry)) (now (tags .entry)))) (encodedCalls (now (calls .entry)) (now (stamps .entry)) (now (seconds .entry)) (now (frames .entry))) r
@@ -323,8 +325,8 @@ pub fn run(
     lines: &mut [[u32; 2]],
     list: &mut [[i64; 2]],
     readings: &mut [[f64; 3]],
-    times: &mut [[i64; 2]; 1024],
-    tags: &mut [[u32; 4]; 1024],
+    times: &mut Times,
+    tags: &mut Tags,
 ) -> Ran
     ensures ending { λ r. ⌜ r .ending ≡ endingFor (now (kinds .entry)) (fitsIn (now (calls .entry)) (now (stamps .entry)) (now (seconds .entry)) (now (frames .entry))
         (listsOf (now (answers .entry)) (now (lines .entry)) (now (list .entry)) (now (readings .entry)) (now (times .entry)) (now (tags .entry)))) ⌝ }

@@ -17,14 +17,12 @@ use Rattle.buffer_state.specs.declared.Head.{Head}
 use Rattle.buffer_state.specs.declared.Read.{Read}
 use Rattle.buffer_state.specs.declared.Read.the-variants as Read
 use Rattle.buffer_state.specs.declared.Refusal.the-variants.{IllFormed}
-use Rattle.buffer_state.specs.declared.Stop.{Stop}
-use Rattle.buffer_state.specs.declared.Stop.the-variants.{Nothing, By}
 use Rattle.buffer_state.specs.declared.WindowEnd.{WindowEnd}
 use Rattle.buffer_state.specs.declared.WindowEnd.the-variants.{Unbounded, At}
 use Rattle.buffer_state.specs.Answers.{written, laid}
 use Rattle.buffer_state.specs.Lent.{Lent, lentOf, bufferIn, wellFormedAt}
 use Rattle.buffer_state.specs.Ranges.{Range}
-use Rattle.buffer_state.specs.Refusals.{Result, refused, done, refusalNumber}
+use Rattle.buffer_state.specs.Refusals.{Result, refused, done, refusalNumber, stopNumber}
 use Rattle.buffer_state.specs.Run.{Call, Answer, ok, fates, settings, ranges, accepted, Reply, replyTo, linesIn, acceptedIn}
 use Rattle.call_rows.specs.declared.Step.{Step}
 
@@ -69,11 +67,7 @@ sizeOf (done (settings r)) = doublesWith (r .end)
 sizeOf (done (ranges rs)) = length rs
 sizeOf (done (accepted n stop ls)) = length ls
 
--- what stopped a batch: the refusal's number, 0 where nothing did
-abbrev pub stopNumber : Stop → ℕ
-stopNumber Nothing = 0
-stopNumber (By why) = refusalNumber why
-
+-- what stopped a batch, as its number
 abbrev pub stopIn : Result Answer → ℕ
 stopIn (refused why) = 0
 stopIn (done ok) = 0

@@ -9,14 +9,16 @@ use buffer_state::Offered;
 use buffer_state::Read;
 use buffer_state::Refusal;
 use buffer_state::Stop;
+use buffer_state::Tags;
+use buffer_state::Times;
 ghost use mathlib.Core.Path.{_≡_};
 ghost use mathlib.Core.List.{map};
 ghost use lib.ListN.{length};
 ghost use Rattle.buffer_state.specs.Batch.{offeredIn};
-ghost use Rattle.buffer_state.specs.Refusals.{refusalNumber};
+ghost use Rattle.buffer_state.specs.Refusals.{refusalNumber, stopNumber};
 ghost use Rattle.buffer_state.specs.Run.{batchCall};
 ghost use Rattle.call_rows.specs.Encoded.{modeOf, offeredOf, linesCall, settingCall, rangesCallOf, callOf};
-ghost use Rattle.call_rows.specs.Replies.{lent, replyOn, Stepped, Lined, Spanned, Quiet, stopNumber, stepWith, plainStep, changeStep, countStep, readStep, acceptedStep};
+ghost use Rattle.call_rows.specs.Replies.{lent, replyOn, Stepped, Lined, Spanned, Quiet, stepWith, plainStep, changeStep, countStep, readStep, acceptedStep};
 
 // The kinds of call. Up to REMOVE they are lent a fate list, from ABORT to READ none, the two reports a range list, a batch a fate list.
 pub const APPEND: u32 = 0;
@@ -146,10 +148,7 @@ fn read_step(answer: Read, h: Head) -> Step
 fn stop_number(stop: Stop) -> usize
     ensures { λ r. ⌜ r ≡ stopNumber stop ⌝ }
 {
-    match stop {
-        Stop::Nothing => 0,
-        Stop::By(why) => number_of(why),
-    }
+    wide(buffer_state::stop_number(stop))
 }
 
 fn accepted_step(answer: Accepted, h: Head) -> Step
@@ -183,8 +182,8 @@ fn lines_step(
     row: [u32; 5],
     stamps: [i64; 2],
     seconds: [f64; 2],
-    times: &mut [[i64; 2]; 1024],
-    tags: &mut [[u32; 4]; 1024],
+    times: &mut Times,
+    tags: &mut Tags,
     fates: &mut [[u32; 2]],
 ) -> Step
     ensures { λ r. ⌜ Lined (replyOn (linesCall row stamps seconds (length (now (fates .entry)))) (lent h (now (times .entry)) (now (tags .entry)))) r (now (times .exit)) (now (tags .exit)) (now (fates .entry)) (now (fates .exit)) ⌝ }
@@ -204,14 +203,7 @@ fn lines_step(
     count_step(answer, k)
 }
 
-fn changed(
-    h: Head,
-    kind: u32,
-    flag: u32,
-    x: f64,
-    times: &[[i64; 2]; 1024],
-    tags: &[[u32; 4]; 1024],
-) -> Changed
+fn changed(h: Head, kind: u32, flag: u32, x: f64, times: &Times, tags: &Tags) -> Changed
     ensures { λ r. ⌜ Quiet (replyOn (settingCall kind flag x) (lent h (now (times .entry)) (now (tags .entry)))) (changeStep (r .answer) (r .head)) (now (times .entry)) (now (tags .entry)) ⌝ }
 {
     if kind == ABORT {
@@ -229,13 +221,7 @@ fn changed(
     settings::set_window_end(h, times, tags, x)
 }
 
-fn ranges_step(
-    h: Head,
-    row: [u32; 5],
-    times: &[[i64; 2]; 1024],
-    tags: &[[u32; 4]; 1024],
-    list: &mut [[i64; 2]],
-) -> Step
+fn ranges_step(h: Head, row: [u32; 5], times: &Times, tags: &Tags, list: &mut [[i64; 2]]) -> Step
     ensures { λ r. ⌜ Spanned (replyOn (rangesCallOf row (length (now (list .entry)))) (lent h (now (times .entry)) (now (tags .entry)))) r (now (times .entry)) (now (tags .entry)) (now (list .entry)) (now (list .exit)) ⌝ }
 {
     if row[0] == TRACK_RANGES {
@@ -250,8 +236,8 @@ fn ranges_step(
 fn batch_step(
     h: Head,
     frames: &[[i64; 6]],
-    times: &mut [[i64; 2]; 1024],
-    tags: &mut [[u32; 4]; 1024],
+    times: &mut Times,
+    tags: &mut Tags,
     fates: &mut [[u32; 2]],
 ) -> Step
     ensures { λ r. ⌜ Lined (replyOn (batchCall (length (now (fates .entry))) (map offeredIn (now (frames .entry)))) (lent h (now (times .entry)) (now (tags .entry)))) r (now (times .exit)) (now (tags .exit)) (now (fates .entry)) (now (fates .exit)) ⌝ }
@@ -270,8 +256,8 @@ pub fn make_call(
     stamps: [i64; 2],
     seconds: [f64; 2],
     frames: &[[i64; 6]],
-    times: &mut [[i64; 2]; 1024],
-    tags: &mut [[u32; 4]; 1024],
+    times: &mut Times,
+    tags: &mut Tags,
     fates: &mut [[u32; 2]],
     list: &mut [[i64; 2]],
 ) -> Step

@@ -17,13 +17,12 @@ use Rattle.buffer_state.specs.declared.Head.{Head}
 use Rattle.buffer_state.specs.declared.Read.{Read}
 use Rattle.buffer_state.specs.declared.Read.the-variants as Read
 use Rattle.buffer_state.specs.declared.Stop.{Stop}
-use Rattle.buffer_state.specs.declared.Stop.the-variants.{Nothing, By}
 use Rattle.buffer_state.specs.Answers.{appendResult, removeResult, batchResult}
 use Rattle.buffer_state.specs.Append.{Outcome}
 use Rattle.buffer_state.specs.Batch as Rows
 use Rattle.buffer_state.specs.Batch.{Batch}
 use Rattle.buffer_state.specs.Lent.{headOf}
-use Rattle.buffer_state.specs.Refusals.{Result, refused, done, refusalNumber}
+use Rattle.buffer_state.specs.Refusals.{Result, refused, done, refusalNumber, stopNumber}
 use Rattle.galumper.specs.declared.Answered.{Answered}
 use Rattle.galumper.specs.declared.FlatAnswer.{FlatAnswer}
 use Rattle.galumper.specs.declared.FlatBatched.{FlatBatched}
@@ -70,11 +69,6 @@ outcomeOut c (refused why) = refusedWith c (refusalNumber why)
 outcomeOut c (done o) = doneWith (headOf (o .after)) (length (o .lines))
 
 -- ---- a batch
-
--- the refusal that stopped it, 0 where none did
-abbrev pub stopNumber : Stop → ℕ
-stopNumber Nothing = 0
-stopNumber (By why) = refusalNumber why
 
 abbrev pub wholeRefused : FlatHead → ℕ → FlatBatched
 wholeRefused c why = record { head = c; answer = record { refusal = why; stop = 0; accepted = 0; count = 0 } }

@@ -13,7 +13,7 @@ ghost use Rattle.buffer_state.specs.declared.Mode.the-variants.{Segments, Seque
 ghost use Rattle.buffer_state.specs.Settings.{create};
 ghost use Rattle.buffer_state.specs.WellFormed.{allOf};
 ghost use Rattle.segments.specs.Segments.{listSegment, rowCount, rowsAfter};
-ghost use Rattle.galumper.specs.Calls.{refusedWith, doneWith, changedOut, handedBack, createdOut, countedOut, outcomeOut, appendFlat, removeFlat, stopNumber, wholeRefused, acceptedWith, batchedOut, batchFlat, batchOut, reportOut, readingOut};
+ghost use Rattle.galumper.specs.Calls.{refusedWith, doneWith, changedOut, handedBack, createdOut, countedOut, outcomeOut, appendFlat, removeFlat, wholeRefused, acceptedWith, batchedOut, batchFlat, batchOut, reportOut, readingOut};
 ghost use Rattle.galumper.specs.Flat.{abi, bufferSize, flagOut, modeIn, modeOut, endIn, boundedOut, endOut, trackIn, trackOut, groupIn, groupOut, settingIn, settingOut, settingsIn, settingsOut, durationIn, offeredIn, segmentTrackIn, plainTrack, plainEnd, plainSettings, plain, headIn, headOut};
 use buffer_state::Accepted;
 use buffer_state::Answer;
@@ -27,6 +27,8 @@ use buffer_state::Refusal;
 use buffer_state::Setting;
 use buffer_state::Settings;
 use buffer_state::Stop;
+use buffer_state::Tags;
+use buffer_state::Times;
 use buffer_state::Track;
 use buffer_state::WindowEnd;
 use fragments::Defaults;
@@ -496,15 +498,6 @@ fn counted_out(c: FlatHead, answer: Count, h: Head) -> Answered
     }
 }
 
-fn stop_number(stop: Stop) -> u32
-    ensures { λ r. ⌜ r ≡ stopNumber stop ⌝ }
-{
-    match stop {
-        Stop::Nothing => 0,
-        Stop::By(why) => buffer_state::refusal_number(why),
-    }
-}
-
 fn whole_refused(c: FlatHead, why: Refusal) -> FlatBatched
     ensures { λ r. ⌜ r ≡ wholeRefused c (refusalNumber why) ⌝ }
 {
@@ -522,7 +515,7 @@ fn accepted_with(h: Head, frames: usize, lines: usize, stop: Stop) -> FlatBatche
     ensures { λ r. ⌜ r ≡ acceptedWith h frames lines stop ⌝ }
 {
     let head = head_out(h);
-    let stopped = stop_number(stop);
+    let stopped = buffer_state::stop_number(stop);
     let answer = FlatBatch {
         refusal: 0,
         stop: stopped,
@@ -610,11 +603,7 @@ pub extern "C" fn galumper_size() -> usize
 
 // A buffer from a lent list of kinds: it clears the arrays. Refused, it touches nothing, and its head is of zeros.
 #[no_mangle]
-pub extern "C" fn galumper_lent_create(
-    kinds: &[u8],
-    times: &mut [[i64; 2]; 1024],
-    tags: &mut [[u32; 4]; 1024],
-) -> Answered
+pub extern "C" fn galumper_lent_create(kinds: &[u8], times: &mut Times, tags: &mut Tags) -> Answered
     ensures answer { λ r. ⌜ r ≡ createdOut (createAnswer (now (kinds .entry))) ⌝ }
     ensures times { λ r. ⌜ now (times .exit) ≡ timesCreated (create (now (kinds .entry))) (now (times .entry)) ⌝ }
     ensures tags { λ r. ⌜ now (tags .exit) ≡ tagsCreated (create (now (kinds .entry))) (now (tags .entry)) ⌝ }
@@ -630,8 +619,8 @@ pub extern "C" fn galumper_lent_create(
 pub extern "C" fn galumper_lent_append(
     c: FlatHead,
     f: FlatOffered,
-    times: &mut [[i64; 2]; 1024],
-    tags: &mut [[u32; 4]; 1024],
+    times: &mut Times,
+    tags: &mut Tags,
     fates: &mut [[u32; 2]],
 ) -> Answered
     ensures answer { λ r. ⌜ r ≡ outcomeOut c (appendFlat (length (now (fates .entry))) f c (now (times .entry)) (now (tags .entry))) ⌝ }
@@ -651,8 +640,8 @@ pub extern "C" fn galumper_lent_append(
 pub extern "C" fn galumper_lent_append_batch(
     c: FlatHead,
     frames: &[[i64; 6]],
-    times: &mut [[i64; 2]; 1024],
-    tags: &mut [[u32; 4]; 1024],
+    times: &mut Times,
+    tags: &mut Tags,
     fates: &mut [[u32; 2]],
 ) -> FlatBatched
     ensures answer { λ r. ⌜ r ≡ batchOut c (batchFlat (length (now (fates .entry))) (now (frames .entry)) c (now (times .entry)) (now (tags .entry))) ⌝ }
@@ -673,8 +662,8 @@ pub extern "C" fn galumper_lent_remove(
     c: FlatHead,
     start: f64,
     end: f64,
-    times: &mut [[i64; 2]; 1024],
-    tags: &mut [[u32; 4]; 1024],
+    times: &mut Times,
+    tags: &mut Tags,
     fates: &mut [[u32; 2]],
 ) -> Answered
     ensures answer { λ r. ⌜ r ≡ outcomeOut c (removeFlat (length (now (fates .entry))) start end c (now (times .entry)) (now (tags .entry))) ⌝ }
@@ -690,11 +679,7 @@ pub extern "C" fn galumper_lent_remove(
 }
 
 #[no_mangle]
-pub extern "C" fn galumper_lent_abort(
-    c: FlatHead,
-    times: &[[i64; 2]; 1024],
-    tags: &[[u32; 4]; 1024],
-) -> Answered
+pub extern "C" fn galumper_lent_abort(c: FlatHead, times: &Times, tags: &Tags) -> Answered
     ensures { λ r. ⌜ r ≡ handedBack c (abortAnswer (headIn c) (now (times .entry)) (now (tags .entry))) ⌝ }
 {
     let h = head_in(c);
@@ -704,7 +689,7 @@ pub extern "C" fn galumper_lent_abort(
     changed_out(c, answer, k)
 }
 
-fn with_mode(c: FlatHead, times: &[[i64; 2]; 1024], tags: &[[u32; 4]; 1024], mode: Mode) -> Answered
+fn with_mode(c: FlatHead, times: &Times, tags: &Tags, mode: Mode) -> Answered
     ensures { λ r. ⌜ r ≡ handedBack c (modeAnswer mode (headIn c) (now (times .entry)) (now (tags .entry))) ⌝ }
 {
     let h = head_in(c);
@@ -716,22 +701,14 @@ fn with_mode(c: FlatHead, times: &[[i64; 2]; 1024], tags: &[[u32; 4]; 1024], mod
 
 // A call for each mode, so that no other can be passed.
 #[no_mangle]
-pub extern "C" fn galumper_lent_set_segments(
-    c: FlatHead,
-    times: &[[i64; 2]; 1024],
-    tags: &[[u32; 4]; 1024],
-) -> Answered
+pub extern "C" fn galumper_lent_set_segments(c: FlatHead, times: &Times, tags: &Tags) -> Answered
     ensures { λ r. ⌜ r ≡ handedBack c (modeAnswer Segments (headIn c) (now (times .entry)) (now (tags .entry))) ⌝ }
 {
     with_mode(c, times, tags, Mode::Segments)
 }
 
 #[no_mangle]
-pub extern "C" fn galumper_lent_set_sequence(
-    c: FlatHead,
-    times: &[[i64; 2]; 1024],
-    tags: &[[u32; 4]; 1024],
-) -> Answered
+pub extern "C" fn galumper_lent_set_sequence(c: FlatHead, times: &Times, tags: &Tags) -> Answered
     ensures { λ r. ⌜ r ≡ handedBack c (modeAnswer Sequence (headIn c) (now (times .entry)) (now (tags .entry))) ⌝ }
 {
     with_mode(c, times, tags, Mode::Sequence)
@@ -740,8 +717,8 @@ pub extern "C" fn galumper_lent_set_sequence(
 #[no_mangle]
 pub extern "C" fn galumper_lent_set_offset(
     c: FlatHead,
-    times: &[[i64; 2]; 1024],
-    tags: &[[u32; 4]; 1024],
+    times: &Times,
+    tags: &Tags,
     seconds: f64,
 ) -> Answered
     ensures { λ r. ⌜ r ≡ handedBack c (offsetAnswer seconds (headIn c) (now (times .entry)) (now (tags .entry))) ⌝ }
@@ -756,8 +733,8 @@ pub extern "C" fn galumper_lent_set_offset(
 #[no_mangle]
 pub extern "C" fn galumper_lent_set_window_start(
     c: FlatHead,
-    times: &[[i64; 2]; 1024],
-    tags: &[[u32; 4]; 1024],
+    times: &Times,
+    tags: &Tags,
     seconds: f64,
 ) -> Answered
     ensures { λ r. ⌜ r ≡ handedBack c (windowStartAnswer seconds (headIn c) (now (times .entry)) (now (tags .entry))) ⌝ }
@@ -772,8 +749,8 @@ pub extern "C" fn galumper_lent_set_window_start(
 #[no_mangle]
 pub extern "C" fn galumper_lent_set_window_end(
     c: FlatHead,
-    times: &[[i64; 2]; 1024],
-    tags: &[[u32; 4]; 1024],
+    times: &Times,
+    tags: &Tags,
     seconds: f64,
 ) -> Answered
     ensures { λ r. ⌜ r ≡ handedBack c (windowEndAnswer seconds (headIn c) (now (times .entry)) (now (tags .entry))) ⌝ }
@@ -786,11 +763,7 @@ pub extern "C" fn galumper_lent_set_window_end(
 }
 
 #[no_mangle]
-pub extern "C" fn galumper_lent_read_settings(
-    c: FlatHead,
-    times: &[[i64; 2]; 1024],
-    tags: &[[u32; 4]; 1024],
-) -> Reading
+pub extern "C" fn galumper_lent_read_settings(c: FlatHead, times: &Times, tags: &Tags) -> Reading
     ensures { λ r. ⌜ r ≡ readingOut (settingsAnswer (headIn c) (now (times .entry)) (now (tags .entry))) ⌝ }
 {
     let h = head_in(c);
@@ -801,8 +774,8 @@ pub extern "C" fn galumper_lent_read_settings(
 #[no_mangle]
 pub extern "C" fn galumper_lent_track_ranges(
     c: FlatHead,
-    times: &[[i64; 2]; 1024],
-    tags: &[[u32; 4]; 1024],
+    times: &Times,
+    tags: &Tags,
     track: u32,
     list: &mut [[i64; 2]],
 ) -> FlatAnswer
@@ -817,8 +790,8 @@ pub extern "C" fn galumper_lent_track_ranges(
 #[no_mangle]
 pub extern "C" fn galumper_lent_common_ranges(
     c: FlatHead,
-    times: &[[i64; 2]; 1024],
-    tags: &[[u32; 4]; 1024],
+    times: &Times,
+    tags: &Tags,
     list: &mut [[i64; 2]],
 ) -> FlatAnswer
     ensures { λ r. ⌜ r ≡ reportOut (rangeCount (commonRangesResult (length (now (list .entry))) (headIn c) (now (times .entry)) (now (tags .entry)))) ⌝ }

@@ -31,7 +31,7 @@ use Rattle.buffer_state.specs.Batch.{Batch}
 use Rattle.buffer_state.specs.Buffer.{Buffer, fresh, freshSettings}
 use Rattle.buffer_state.specs.Lent.{headOf, wellFormedAt, onLent}
 use Rattle.buffer_state.specs.Limits.{mostTracks, knownKind}
-use Rattle.buffer_state.specs.Refusals.{Result, refused, done, refusalNumber}
+use Rattle.buffer_state.specs.Refusals.{Result, refused, done, refusalNumber, stopNumber}
 use Rattle.buffer_state.specs.Settings.{create}
 use Rattle.buffer_state.specs.WellFormed.{allOf}
 use Rattle.buffer_laws.proofs.KeptLaws.{Keeps, Made, OutcomeKeeps, SettingKeeps}
@@ -40,7 +40,7 @@ use Rattle.galumper.specs.declared.FlatAnswer.{FlatAnswer}
 use Rattle.galumper.specs.declared.FlatBatched.{FlatBatched}
 use Rattle.galumper.specs.declared.FlatHead.{FlatHead}
 use Rattle.galumper.specs.declared.Reading.{Reading}
-use Rattle.galumper.specs.Calls.{outcomeOut, stopNumber, batchOut, handedBack, reportOut, readingOut}
+use Rattle.galumper.specs.Calls.{outcomeOut, batchOut, handedBack, reportOut, readingOut}
 use Rattle.galumper.specs.Flat.{headIn, headOut}
 use Rattle.galumper.proofs.FlatLaws.{head-back}
 use Rattle.galumper_account.specs.Told.{refusalOf, countOf, stopOf, acceptedOf, answerOf, readOf}

@@ -10,7 +10,7 @@ use lib.IntN.{ℤ}
 use lib.Ieee.{Float, binary64, fits}
 use Rattle.buffer_state.specs.Buffer.{Buffer, fresh}
 use Rattle.buffer_state.specs.Lent.{Lent, headOf, timesIn, tagsIn}
-use Rattle.buffer_state.specs.Refusals.{Result, refused, done, refusalNumber}
+use Rattle.buffer_state.specs.Refusals.{Result, refused, done, refusalNumber, stopNumber}
 use Rattle.buffer_state.specs.Run.{Answer, ok, fates, settings, ranges, accepted, Entry, run, lastOf}
 use Rattle.account.specs.Made.{calls}
 use Rattle.account.specs.History as Account
@@ -20,7 +20,6 @@ use Rattle.galumper.specs.declared.FlatBatched.{FlatBatched}
 use Rattle.galumper.specs.declared.FlatHead.{FlatHead}
 use Rattle.galumper.specs.declared.FlatOffered.{FlatOffered}
 use Rattle.galumper.specs.declared.Reading.{Reading}
-use Rattle.galumper.specs.Calls.{stopNumber}
 use Rattle.galumper.specs.Flat.{headIn, headOut}
 use Rattle.galumper_account.specs.Told.{Ask, append, remove, abort, setSegments, setSequence, setOffset, setWindowStart, setWindowEnd, readSettings, trackRanges, commonRanges, batch, Told, numbersIn, made}
 use Rattle.galumper.proofs.galumper_lent_create.Reads as Create

@@ -17,7 +17,7 @@ use Rattle.places.specs.Places.{opened, GoesAt, Holding}
 use Rattle.buffer_laws.proofs.RowLaws.{frames-length}
 use Rattle.places.proofs.OpenLaws.{open-filled, map-filled}
 
-module _ (f : Frame) (ts : List (List ℤ)) (gs : List (List ℕ)) (n p : ℕ) (h : n < 1024) (k : Lengths ts gs) (w : Holding ts gs n) (a : GoesAt f (take n (framesOf ts gs)) p) where
+module _ (f : Frame) (ts : List (List ℤ)) (gs : List (List ℕ)) (n p : ℕ) (h : n < places) (k : Lengths ts gs) (w : Holding ts gs n) (a : GoesAt f (take n (framesOf ts gs)) p) where
   full : length (framesOf ts gs) ≡ places
   full = frames-length ts gs (k .0 ∙ sym (k .1)) ∙ k .0
 

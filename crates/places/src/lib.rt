@@ -176,7 +176,7 @@ fn place_of(times: &[[i64; 2]], tags: &[[u32; 4]], n: usize, f: Frame) -> usize
 
 // A frame stored in order among the first n: those that it comes before move one place on.
 pub fn insert(times: &mut [[i64; 2]], tags: &mut [[u32; 4]], n: usize, f: Frame)
-    requires { ⌜ (n < 1024) × Lengths (now times) (now tags) × Holding (now times) (now tags) n × (sorted (take n (framesOf (now times) (now tags))) ≡ true) ⌝ }
+    requires { ⌜ (n < places) × Lengths (now times) (now tags) × Holding (now times) (now tags) n × (sorted (take n (framesOf (now times) (now tags))) ≡ true) ⌝ }
     ensures times { λ r. ⌜ now (times .exit) ≡ timesOf (padded places zeroFrame (insertSorted f (take n (framesOf (now (times .entry)) (now (tags .entry)))))) ⌝ }
     ensures tags { λ r. ⌜ now (tags .exit) ≡ tagsOf (padded places zeroFrame (insertSorted f (take n (framesOf (now (times .entry)) (now (tags .entry)))))) ⌝ }
 {

@@ -9,6 +9,7 @@ use lib.IntN.{ℤ}
 use lib.ListN.{length, take, getD, set, length-map, length-take, drop-of-length-le}
 use lib.Seq.{slice, slice-cons, take-suc-set, append-snoc, getD-take, length-take-le}
 use Rattle.buffer_state.specs.Answers.{laid}
+use Rattle.buffer_state.specs.Limits.{places}
 use Rattle.buffer_state.specs.Ranges.{Range}
 use Rattle.buffer_state.specs.WellFormed.{allOf}
 use Rattle.buffer_laws.proofs.TestLaws.{all-first, all-rest}
@@ -41,7 +42,7 @@ pub laid-read : (rs : List Range) → rangesIn (laid rs) ≡ rs
 laid-read [] = refl
 laid-read (r ∷ rs) = ap (λ (l : List Range). r ∷ l) (laid-read rs)
 
-pub shows : (spans : List (List ℤ)) (n : ℕ) (rs : List Range) → take n spans ≡ laid rs → n ≤ length spans → n ≤ 1024 → Shows spans n rs
+pub shows : (spans : List (List ℤ)) (n : ℕ) (rs : List Range) → take n spans ≡ laid rs → n ≤ length spans → n ≤ places → Shows spans n rs
 shows spans n rs e full few = record { rows = e; count = sym (length-take-le n spans full) ∙ ap length e ∙ length-map rs _; few = few }
 
 pub shown : {spans : List (List ℤ)} {n : ℕ} {rs : List Range} → Shows spans n rs → rangesIn (take n spans) ≡ rs

@@ -18,6 +18,7 @@ use Rattle.sorting.specs.Sorting.{following, neighbours, rises, occurrences}
 use Rattle.sorting.proofs.SortLaws.{occurs-first, occurs-later}
 use Rattle.buffer_state.specs.declared.Frame.{Frame}
 use Rattle.buffer_state.specs.Layout.{zeroFrame}
+use Rattle.buffer_state.specs.Limits.{places}
 use Rattle.buffer_state.specs.Ranges.{Range, covers, liesIn, inRanges, coveredOn, rangesOf}
 use Rattle.buffer_state.specs.WellFormed.{allOf}
 use Rattle.buffer_laws.proofs.RisingLaws.{unique}
@@ -71,7 +72,7 @@ module _ (t : ℤ) (g : ℕ → Range) where
 module _ (fs : List Frame) where
   -- the key names a sound frame, whose time it has
   abbrev proper : ℕ → Bool
-  proper key = sound (frameAt fs key) && eqb (natAbs (frameAt fs key .pts)) (key / 1024)
+  proper key = sound (frameAt fs key) && eqb (natAbs (frameAt fs key .pts)) (key / places)
 
   proper-timely : (key : ℕ) → proper key ≡ true → timely (frameAt fs key) ≡ true
   proper-timely key e = and-left _ _ (and-left (sound (frameAt fs key)) _ e)
@@ -81,10 +82,10 @@ module _ (fs : List Frame) where
       let f = frameAt fs key in
       lt-test (lt-add (f .pts) (f .duration) (leb-true 1 (f .duration) (and-right (timely f) _ (and-left (sound f) _ e))))
 
-  proper-time : (key : ℕ) → proper key ≡ true → frameAt fs key .pts ≡ pos (key / 1024)
+  proper-time : (key : ℕ) → proper key ≡ true → frameAt fs key .pts ≡ pos (key / places)
   proper-time key e =
       let f = frameAt fs key in
-      timely-natural f (proper-timely key e) ∙ ap pos (eqb-true (natAbs (f .pts)) (key / 1024) (and-right (sound f) _ e))
+      timely-natural f (proper-timely key e) ∙ ap pos (eqb-true (natAbs (f .pts)) (key / places) (and-right (sound f) _ e))
 
   -- a list of frames is what stands from a place on
   abbrev At : ℕ → List Frame → Type 0
@@ -95,12 +96,12 @@ module _ (fs : List Frame) where
       let e : suc place + j ≡ place + suc j = omega arith in
       ap (λ (m : ℕ). getD fs m zeroFrame) e ∙ h (suc j) (omega arith)
 
-  at-first : (place : ℕ) (f : Frame) (gs : List Frame) → place < 1024 → At place (f ∷ gs) → frameAt fs (keyOf place f) ≡ f
+  at-first : (place : ℕ) (f : Frame) (gs : List Frame) → place < places → At place (f ∷ gs) → frameAt fs (keyOf place f) ≡ f
   at-first place f gs l h =
-      let e : keyOf place f % 1024 ≡ place + 0 = omega arith in
+      let e : keyOf place f % places ≡ place + 0 = omega arith in
       ap (λ (m : ℕ). getD fs m zeroFrame) e ∙ h 0 (omega arith)
 
-  keys-proper : (track place : ℕ) (gs : List Frame) → place + length gs ≤ 1024 → At place gs → allOf sound gs ≡ true
+  keys-proper : (track place : ℕ) (gs : List Frame) → place + length gs ≤ places → At place gs → allOf sound gs ≡ true
       → allOf proper (trackKeys track place gs) ≡ true
   unfolding trackKeys
   keys-proper track place [] l h e = all-none proper
@@ -108,8 +109,8 @@ module _ (fs : List Frame) where
       let rest : allOf proper (trackKeys track (suc place) gs) ≡ true =
       keys-proper track (suc place) gs (omega arith) (at-rest place f gs h) (all-rest sound f gs e) in
       let first : proper (keyOf place f) ≡ true =
-      subst (λ g. (sound g && eqb (natAbs (g .pts)) (keyOf place f / 1024)) ≡ true) (sym (at-first place f gs (omega arith) h))
-      (and-both (all-first sound f gs e) (eq-eqb (natAbs (f .pts)) (keyOf place f / 1024) (omega arith))) in
+      subst (λ g. (sound g && eqb (natAbs (g .pts)) (keyOf place f / places)) ≡ true) (sym (at-first place f gs (omega arith) h))
+      (and-both (all-first sound f gs e) (eq-eqb (natAbs (f .pts)) (keyOf place f / places) (omega arith))) in
       by-test (λ k. allOf proper k ≡ true) (eqb (f .track) track) (λ _. all-more proper (keyOf place f) _ first rest) (λ _. rest)
 
   keyed-if : (t : ℤ) (b : Bool) (x : ℕ) (l : List ℕ)
@@ -118,7 +119,7 @@ module _ (fs : List Frame) where
   keyed-if t true x l = refl
   keyed-if t false x l = refl
 
-  keys-cover : (t : ℤ) (track place : ℕ) (gs : List Frame) → place + length gs ≤ 1024 → At place gs
+  keys-cover : (t : ℤ) (track place : ℕ) (gs : List Frame) → place + length gs ≤ places → At place gs
       → inRanges t (stretches fs (trackKeys track place gs)) ≡ coveredOn track t gs
   unfolding trackKeys inRanges coveredOn
   keys-cover t track place [] l h = refl
@@ -135,7 +136,7 @@ module _ (fs : List Frame) where
   keys-from x (y ∷ l) r p e =
       let q : proper y ≡ true = all-first proper y l e in
       let h : x ≤ y = leb-true x y (and-left (leb x y) _ r) in
-      let first : leZ (frameAt fs x .pts) (frameAt fs y .pts) ≡ true = rw (proper-time x p, proper-time y q) (le-leb (x / 1024) (y / 1024) (omega arith)) in
+      let first : leZ (frameAt fs x .pts) (frameAt fs y .pts) ≡ true = rw (proper-time x p, proper-time y q) (le-leb (x / places) (y / places) (omega arith)) in
       and-both first
       (keys-from y l (and-right (leb x y) _ r) q (all-rest proper y l e))
 
@@ -149,11 +150,11 @@ module _ (fs : List Frame) where
 -- the first k keys, with those of the frames from i on, are the track's
 pub record Found (track : ℕ) (fs : List Frame) (n : ℕ) (keys : List ℕ) (k i : ℕ) : Type 0 where
   pub full : n ≤ length fs
-  pub size : length keys ≡ 1024
+  pub size : length keys ≡ places
   pub all : take k keys ++ trackKeys track i (slice i n fs) ≡ trackKeys track 0 (take n fs)
 
 module _ {track : ℕ} {fs : List Frame} {n : ℕ} {keys : List ℕ} {k i : ℕ} (inv : Found track fs n keys k i) where
-  pub own-key : i < n → k < 1024 → (key : ℕ) → key ≡ keyOf i (getD fs i zeroFrame) → getD fs i zeroFrame .track ≡ track
+  pub own-key : i < n → k < places → (key : ℕ) → key ≡ keyOf i (getD fs i zeroFrame) → getD fs i zeroFrame .track ≡ track
       → Found track fs n (set keys k key) (k + 1) (i + 1)
   unfolding trackKeys
   own-key h room key q e = record {
@@ -172,7 +173,7 @@ module _ {track : ℕ} {fs : List Frame} {n : ℕ} {keys : List ℕ} {k i : ℕ}
     all = rw (next fs i n zeroFrame h (inv .full), ne-eqb (getD fs i zeroFrame .track) track e, ← add-one i) at (inv .all);
   }
 
-  pub all-keys : n ≤ i → k ≤ 1024 → Keyed keys k (trackKeys track 0 (take n fs))
+  pub all-keys : n ≤ i → k ≤ places → Keyed keys k (trackKeys track 0 (take n fs))
   unfolding trackKeys
   all-keys h room =
       let e : take k keys ≡ trackKeys track 0 (take n fs) = sym (append-nil (take k keys)) ∙ (rw (done fs i n h) at (inv .all)) in
@@ -187,7 +188,7 @@ keys-few track place (f ∷ gs) =
 
 -- ---- the keys of the first n frames, sorted
 
-module _ (track n : ℕ) (fs : List Frame) (few : n ≤ 1024) (full : n ≤ length fs) (good : allOf sound (take n fs) ≡ true)
+module _ (track n : ℕ) (fs : List Frame) (few : n ≤ places) (full : n ≤ length fs) (good : allOf sound (take n fs) ≡ true)
     (l : List ℕ) (rise : rises l ≡ true) (same : (k : ℕ) → occurrences k l ≡ occurrences k (trackKeys track 0 (take n fs))) where
   stored-at : At fs 0 (take n fs)
   stored-at j h =
@@ -225,7 +226,7 @@ none-walked fs keys n spans e = rw e (record { rows = refl; count = refl; few = 
 -- the frame that the next key names
 
 module _ (fs : List Frame) (keys : List ℕ) (n i : ℕ) (h : i < n) (full : n ≤ length keys)
-    (place : ℕ) (p : place ≡ getD keys i 0 % 1024) (f : Frame) (d : f ≡ getD fs place zeroFrame) where
+    (place : ℕ) (p : place ≡ getD keys i 0 % places) (f : Frame) (d : f ≡ getD fs place zeroFrame) where
   named : f ≡ frameAt fs (getD keys i 0)
   named = d ∙ ap (λ (m : ℕ). getD fs m zeroFrame) p
 

@@ -13,6 +13,7 @@ use lib.Signed.{ltZ, _≤ℤ_, _<ℤ_}
 use Rattle.laws.proofs.BoolLaws.{by-test}
 use Rattle.laws.proofs.IntLaws.{test-lt, test-ge, ge-test, lt-le, le-lt, le-le, weaken}
 use Rattle.buffer_state.specs.Answers.{laid}
+use Rattle.buffer_state.specs.Limits.{places}
 use Rattle.buffer_state.specs.Ranges.{Range, rising, overlap, clipped, common}
 use Rattle.buffer_laws.proofs.RisingLaws.{lesser-left, lesser-right, greater-left, greater-right, rise-some, rise-gap, rise-tail}
 use Rattle.buffer_laws.proofs.CommonLaws.{shared}
@@ -80,7 +81,7 @@ rest i spans = rangesIn (drop i spans)
 -- the first k rows, with what the rows from i on and the other list from j on have in common, are all
 pub record Meeting (spans : List (List ℤ)) (k i : ℕ) (ys : List (List ℤ)) (n j : ℕ) (all : List Range) : Type 0 where
   pub right-full : n ≤ length ys
-  pub size : length spans ≡ 1024
+  pub size : length spans ≡ places
   pub left : rising (rest i spans) ≡ true
   pub right : rising (from j n ys) ≡ true
   pub rows : take k spans ++ laid (common (rest i spans) (from j n ys)) ≡ laid all
@@ -97,7 +98,7 @@ pub one-at-most : (l : ℕ) (z : Range) → l ≡ cond (ltZ (z .start) (z .end))
 one-at-most l z e = rw e (by-test (λ n. n ≤ 1) (ltZ (z .start) (z .end)) {x = 1} {y = 0} (λ _. omega arith) (λ _. omega arith))
 
 module _ {spans : List (List ℤ)} {k i : ℕ} {ys : List (List ℤ)} {n j : ℕ} {all : List Range} (inv : Meeting spans k i ys n j all) where
-  module _ (h : i < 1024) (g : j < n) (room : k < i) (x y z : Range) (ex : x ≡ rangeIn (getD spans i [])) (ey : y ≡ rangeIn (getD ys j []))
+  module _ (h : i < places) (g : j < n) (room : k < i) (x y z : Range) (ex : x ≡ rangeIn (getD spans i [])) (ey : y ≡ rangeIn (getD ys j []))
       (e : z ≡ shared x y) (after : List (List ℤ)) (w : after ≡ set spans k (rowOf z)) (l : ℕ) (p : l ≡ cond (ltZ (z .start) (z .end)) 1 0) where
     from-x : rest i spans ≡ x ∷ rest (i + 1) spans
     from-x = rw (add-one i, ex) (ap rangesIn (drop-cons spans i [] (omega (arith, inv .size))))
@@ -111,7 +112,7 @@ module _ {spans : List (List ℤ)} {k i : ℕ} {ys : List (List ℤ)} {n j : ℕ
     rise-y : rising (y ∷ from (j + 1) n ys) ≡ true
     rise-y = sym (ap rising from-y) ∙ inv .right
 
-    size-after : length after ≡ 1024
+    size-after : length after ≡ places
     size-after = ap length w ∙ length-set spans k (rowOf z) ∙ inv .size
 
     -- a row is written in front of those that are not read
@@ -153,13 +154,13 @@ module _ {spans : List (List ℤ)} {k i : ℕ} {ys : List (List ℤ)} {n j : ℕ
               (right-done x y _ _ (test-ge t) rise-x ∙ ap (λ (l : List Range). overlap x y ++ common l (from (j + 1) n ys)) (sym from-x));
         }
 
-  all-met : common (rest i spans) (from j n ys) ≡ [] → k ≤ 1024 → Shows spans k all
+  all-met : common (rest i spans) (from j n ys) ≡ [] → k ≤ places → Shows spans k all
   all-met none room =
       shows spans k _ (sym (append-nil (take k spans)) ∙ (rw none at (inv .rows))) (omega (arith, inv .size)) room
 
-  pub left-over : 1024 ≤ i → k ≤ 1024 → Shows spans k all
+  pub left-over : places ≤ i → k ≤ places → Shows spans k all
   unfolding common
   left-over h = all-met (ap (λ (l : List (List ℤ)). common (rangesIn l) (from j n ys)) (drop-of-length-le spans {i = i} (omega (arith, inv .size))))
 
-  pub right-over : n ≤ j → k ≤ 1024 → Shows spans k all
+  pub right-over : n ≤ j → k ≤ places → Shows spans k all
   right-over h = all-met (ap (λ (l : List (List ℤ)). common (rest i spans) (rangesIn l)) (done ys j n h) ∙ common-none (rest i spans))

@@ -17,6 +17,7 @@ use Rattle.seconds.specs.Seconds.{sameInt}
 use Rattle.seconds.proofs.SecondsLaws.{same-int}
 use Rattle.buffer_state.specs.declared.Frame.{Frame}
 use Rattle.buffer_state.specs.Layout.{zeroFrame}
+use Rattle.buffer_state.specs.Limits.{places}
 use Rattle.buffer_state.specs.Ranges.{Range, greater, covers, liesIn, inRanges, coveredOn, rangesOf}
 use Rattle.buffer_state.specs.Store.{before}
 use Rattle.buffer_state.specs.WellFormed.{allOf, sorted}
@@ -189,7 +190,7 @@ module _ (track : ℕ) (fs : List Frame) (sort : sorted fs ≡ true) (each : all
   some-at i h f d q e = ap some (e ∙ ap stretchOf d) ∙ sound-some (getD fs i zeroFrame) (all-at sound fs i zeroFrame h each)
 
   pub pass-begins : (p : ℕ) → Begins track fs p → (h : p < length fs) (f : Frame) → f ≡ getD fs p zeroFrame → (r : Range) → r ≡ stretchOf f
-      → (spans : List (List ℤ)) → length spans ≡ 1024 → Passing track fs spans r 0 (p + 1)
+      → (spans : List (List ℤ)) → length spans ≡ places → Passing track fs spans r 0 (p + 1)
   pass-begins p b h f d r e spans size =
       let own = b .own h in
       let all : ownStretches track fs ≡ r ∷ ownStretches track (drop (p + 1) fs) =
@@ -209,7 +210,7 @@ module _ (track : ℕ) (fs : List Frame) (sort : sorted fs ≡ true) (each : all
             own-next fs sort i h track (sym (ap (λ (g : Frame). g .track) d) ∙ own)
             ∙ ap (λ (q : Range). q ∷ ownStretches track (drop (i + 1) fs)) (sym (e ∙ ap stretchOf d))
 
-        pub pass-opens : (after : List (List ℤ)) → after ≡ set spans k (rowOf r) → k < 1024 → ltZ (r .end) (q .start) ≡ true
+        pub pass-opens : (after : List (List ℤ)) → after ≡ set spans k (rowOf r) → k < places → ltZ (r .end) (q .start) ≡ true
             → Passing track fs after q (k + 1) (i + 1)
         pass-opens after w room t = record {
           walk = opens (inv .walk) q _ left after w room t;
@@ -241,6 +242,6 @@ module _ (track : ℕ) (fs : List Frame) (sort : sorted fs ≡ true) (each : all
       pass-left other = own-past fs sort i h track (inv .from) (λ e. other (ap (λ (g : Frame). g .track) d ∙ e))
 
     pub pass-ends : ownStretches track (drop i fs) ≡ [] → (after : List (List ℤ)) → after ≡ set spans k (rowOf r)
-        → (n : ℕ) → n ≡ k + 1 → k < 1024 → Shows after n (rangesOf track fs)
+        → (n : ℕ) → n ≡ k + 1 → k < places → Shows after n (rangesOf track fs)
     pass-ends none after w n e room =
         rw (e, ← own-swept track fs each (ends-order (inv .walk) none (inv .order))) (walk-ends (inv .walk) none after w room)

@@ -11,6 +11,7 @@ use lib.Signed.{ltZ, leZ, _<ℤ_, _≤ℤ_}
 use Rattle.laws.proofs.BoolLaws.{split, by-test, and-left, and-right, and-both}
 use Rattle.laws.proofs.IntLaws.{test-lt, test-le, lt-test, le-test, test-ge, ge-test, lt-le, le-lt, le-le, weaken}
 use Rattle.buffer_state.specs.Answers.{laid}
+use Rattle.buffer_state.specs.Limits.{places}
 use Rattle.buffer_state.specs.Ranges.{Range, liesIn, inRanges, endsBefore, rising}
 use Rattle.buffer_state.specs.WellFormed.{allOf}
 use Rattle.buffer_laws.proofs.TestLaws.{all-first, all-rest}
@@ -126,10 +127,10 @@ module _ (r q : Range) (qs : List Range) where
 
 -- the first k rows, with a walk from the open range over the stretches that are left, are the walk over all
 pub record Walking (all left : List Range) (spans : List (List ℤ)) (r : Range) (k : ℕ) : Type 0 where
-  pub size : length spans ≡ 1024
+  pub size : length spans ≡ places
   pub rows : take k spans ++ laid (sweptFrom r left) ≡ laid (swept all)
 
-pub walk-begins : (all left : List Range) (spans : List (List ℤ)) (r : Range) → length spans ≡ 1024 → all ≡ r ∷ left → Walking all left spans r 0
+pub walk-begins : (all left : List Range) (spans : List (List ℤ)) (r : Range) → length spans ≡ places → all ≡ r ∷ left → Walking all left spans r 0
 unfolding swept
 walk-begins all left spans r size e = record { size = size; rows = ap (λ (l : List Range). laid (swept l)) (sym e) }
 
@@ -138,7 +139,7 @@ module _ {all left : List Range} {spans : List (List ℤ)} {r : Range} {k : ℕ}
     turned : (l : List Range) → sweptFrom r (q ∷ rest) ≡ l → take k spans ++ laid l ≡ laid (swept all)
     turned l g = ap (λ (m : List Range). take k spans ++ laid m) (sym (ap (sweptFrom r) e ∙ g)) ∙ inv .rows
 
-    pub opens : (after : List (List ℤ)) → after ≡ set spans k (rowOf r) → k < 1024 → ltZ (r .end) (q .start) ≡ true → Walking all rest after q (k + 1)
+    pub opens : (after : List (List ℤ)) → after ≡ set spans k (rowOf r) → k < places → ltZ (r .end) (q .start) ≡ true → Walking all rest after q (k + 1)
     opens after w room t = record {
       size = ap length w ∙ length-set spans k (rowOf r) ∙ inv .size;
       rows = rw w (more spans k (rowOf r) (laid (sweptFrom q rest)) (omega (arith, inv .size)) ∙ turned _ (from-opens r q rest t));
@@ -156,11 +157,11 @@ module _ {all left : List Range} {spans : List (List ℤ)} {r : Range} {k : ℕ}
     grows-order o t s = sym (ap (inOrder r) e ∙ order-grows r q rest t s) ∙ o
 
   module _ (e : left ≡ []) where
-    pub walk-ends : (after : List (List ℤ)) → after ≡ set spans k (rowOf r) → k < 1024 → Shows after (k + 1) (swept all)
+    pub walk-ends : (after : List (List ℤ)) → after ≡ set spans k (rowOf r) → k < places → Shows after (k + 1) (swept all)
     unfolding sweptFrom
     walk-ends after w room =
         let full : k < length spans = omega (arith, inv .size) in
-        let size : length after ≡ 1024 = ap length w ∙ length-set spans k (rowOf r) ∙ inv .size in
+        let size : length after ≡ places = ap length w ∙ length-set spans k (rowOf r) ∙ inv .size in
         let rows : take (k + 1) after ≡ laid (swept all) =
         sym (append-nil (take (k + 1) after)) ∙ (rw w (more spans k (rowOf r) [] full))
         ∙ ap (λ (l : List Range). take k spans ++ laid (sweptFrom r l)) (sym e) ∙ inv .rows in

@@ -10,7 +10,7 @@ use lib.Signed.{ltZ, leZ}
 use Rattle.buffer_state.specs.declared.Frame.{Frame}
 use Rattle.buffer_state.specs.Buffer.{endOf}
 use Rattle.buffer_state.specs.Layout.{zeroFrame}
-use Rattle.buffer_state.specs.Limits.{within}
+use Rattle.buffer_state.specs.Limits.{within, places}
 use Rattle.buffer_state.specs.Ranges.{Range, greater}
 
 -- ---- a frame
@@ -36,7 +36,7 @@ ownStretches track (f ∷ fs) = let rest = ownStretches track fs in cond (eqb (f
 
 -- a key: the time decides, and tells frames of one time apart by their places
 abbrev pub keyOf : ℕ → Frame → ℕ
-keyOf place f = natAbs (f .pts) * 1024 + place
+keyOf place f = natAbs (f .pts) * places + place
 
 -- the keys of a track's frames, the first of which stands at a place
 unfoldable pub trackKeys : ℕ → ℕ → List Frame → List ℕ
@@ -52,7 +52,7 @@ pub record Keyed (array : List ℕ) (n : ℕ) (l : List ℕ) : Type 0 where
 
 -- the frame that a key names
 abbrev pub frameAt : List Frame → ℕ → Frame
-frameAt fs key = getD fs (key % 1024) zeroFrame
+frameAt fs key = getD fs (key % places) zeroFrame
 
 -- ---- the walk
 

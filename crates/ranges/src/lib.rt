@@ -2,7 +2,10 @@
 use buffer_state::Count;
 use buffer_state::Frame;
 use buffer_state::Head;
+use buffer_state::PLACES;
 use buffer_state::Refusal;
+use buffer_state::Tags;
+use buffer_state::Times;
 ghost use mathlib.Core.Path.{_≡_};
 ghost use mathlib.Core.Bool.{true, cond};
 ghost use Prim.Native.Nat.{_+_, _-_, _%_, _<_, _≤_};
@@ -10,6 +13,7 @@ ghost use lib.ListN.{length, take, drop, set};
 ghost use lib.Signed.{ltZ};
 ghost use Rattle.seconds.specs.Seconds.{sameInt};
 ghost use Rattle.buffer_state.specs.Lent.{framesOf, Lengths};
+ghost use Rattle.buffer_state.specs.Limits.{places};
 ghost use Rattle.buffer_state.specs.Ranges.{lesser, greater, common, rangesOf, commonRangesOf};
 ghost use Rattle.buffer_state.specs.WellFormed.{allOf};
 ghost use Rattle.buffer_state.specs.Answers.{trackRangesResult, commonRangesResult};
@@ -164,7 +168,7 @@ fn walk_stored(
     first: usize,
     spans: &mut [[i64; 2]],
 ) -> Walk
-    requires { ⌜ (Stores (now times) (now tags) n) × (Begins track (stored (now times) (now tags) n) first) × (first < n) × (length (now spans) ≡ 1024) ⌝ }
+    requires { ⌜ (Stores (now times) (now tags) n) × (Begins track (stored (now times) (now tags) n) first) × (first < n) × (length (now spans) ≡ places) ⌝ }
     ensures { λ r. ⌜ (r .ordered ≡ true → Shows (now (spans .exit)) (r .count) (rangesOf track (stored (now (times .entry)) (now (tags .entry)) n))) ⌝ }
 {
     let f = places::frame_at(times, tags, first);
@@ -201,14 +205,16 @@ fn walk_stored(
 
 // ---- the frames put in presentation order
 
-// A frame's presentation time, and its place in the store, as one number.
+const KEYS_A_TIME: u64 = PLACES as u64;
+
+// A frame's presentation time, and its place in the store, as one number: each time has a key for each place.
 fn key_of(f: Frame, place: usize) -> u64
-    requires { ⌜ (timely f ≡ true) × (place < 1024) ⌝ }
+    requires { ⌜ (timely f ≡ true) × (place < places) ⌝ }
     ensures { λ r. ⌜ r ≡ keyOf place f ⌝ }
 {
     let p = f.pts;
     let time = p as u64;
-    time * 1024 + (place as u64)
+    time * KEYS_A_TIME + (place as u64)
 }
 
 // The keys of the track's frames, and how many there are.
@@ -219,7 +225,7 @@ fn track_keys(
     track: u32,
     keys: &mut [u64],
 ) -> usize
-    requires { ⌜ (Stores (now times) (now tags) n) × (length (now keys) ≡ 1024) ⌝ }
+    requires { ⌜ (Stores (now times) (now tags) n) × (length (now keys) ≡ places) ⌝ }
     ensures { λ r. ⌜ Keyed (now (keys .exit)) r (trackKeys track 0 (stored (now (times .entry)) (now (tags .entry)) n)) ⌝ }
 {
     let mut k: usize = 0;
@@ -240,9 +246,9 @@ fn track_keys(
 
 // The place in the store that a key names.
 fn place_of(key: u64) -> usize
-    ensures { λ r. ⌜ r ≡ key % 1024 ⌝ }
+    ensures { λ r. ⌜ r ≡ key % places ⌝ }
 {
-    (key % 1024) as usize
+    (key % KEYS_A_TIME) as usize
 }
 
 // The same walk over the frames that the first n keys name.
@@ -253,7 +259,7 @@ fn walk_keys(
     n: usize,
     spans: &mut [[i64; 2]],
 ) -> usize
-    requires { ⌜ (Lengths (now times) (now tags)) × (n ≤ 1024) × (n ≤ length (now keys)) × (length (now spans) ≡ 1024)
+    requires { ⌜ (Lengths (now times) (now tags)) × (n ≤ places) × (n ≤ length (now keys)) × (length (now spans) ≡ places)
         × (allOf (λ key. timely (frameAt (framesOf (now times) (now tags)) key)) (take n (now keys)) ≡ true) ⌝ }
     ensures { λ r. ⌜ Shows (now (spans .exit)) r (swept (stretches (framesOf (now (times .entry)) (now (tags .entry))) (take n (now (keys .entry))))) ⌝ }
 {
@@ -289,7 +295,7 @@ fn track_bars(
     track: u32,
     spans: &mut [[i64; 2]],
 ) -> usize
-    requires { ⌜ (Stores (now times) (now tags) n) × (length (now spans) ≡ 1024) ⌝ }
+    requires { ⌜ (Stores (now times) (now tags) n) × (length (now spans) ≡ places) ⌝ }
     ensures { λ r. ⌜ Shows (now (spans .exit)) r (rangesOf track (stored (now (times .entry)) (now (tags .entry)) n)) ⌝ }
 {
     let first = first_of(times, tags, n, track);
@@ -300,9 +306,9 @@ fn track_bars(
     if w.ordered {
         return w.count;
     }
-    let mut keys = [0u64; 1024];
+    let mut keys = [0u64; PLACES];
     let count = track_keys(times, tags, n, track, &mut keys);
-    let mut room = [0u64; 1024];
+    let mut room = [0u64; PLACES];
     sorting::sort(&mut keys, &mut room, count);
     walk_keys(times, tags, &keys, count, spans)
 }
@@ -352,11 +358,11 @@ fn places_of(a: Span) -> usize
 
 // The first n of 1,024 rows moved to the end of their array, from the last on, so that no row is overwritten before it is moved.
 fn move_to_end(rows: &mut [[i64; 2]], n: usize)
-    requires { ⌜ (n ≤ 1024) × (length (now rows) ≡ 1024) ⌝ }
-    ensures { λ r. ⌜ drop (1024 - n) (now (rows .exit)) ≡ take n (now (rows .entry)) ⌝ }
+    requires { ⌜ (n ≤ places) × (length (now rows) ≡ places) ⌝ }
+    ensures { λ r. ⌜ drop (places - n) (now (rows .exit)) ≡ take n (now (rows .entry)) ⌝ }
 {
     let mut left = n;
-    let mut to: usize = 1024;
+    let mut to: usize = PLACES;
     while 0 < left {
         left -= 1;
         to -= 1;
@@ -369,14 +375,14 @@ fn move_to_end(rows: &mut [[i64; 2]], n: usize)
 // sooner is done with. The spans are read from the end of their array. What is found is never more than the ranges done with, and
 // m + n are at most 1,024, so that no span is overwritten before it is read.
 fn both_bars(spans: &mut [[i64; 2]], m: usize, more: &[[i64; 2]], n: usize) -> usize
-    requires { ⌜ (Meets (now spans) m (now more) n) × (length (now spans) ≡ 1024) ⌝ }
+    requires { ⌜ (Meets (now spans) m (now more) n) × (length (now spans) ≡ places) ⌝ }
     ensures { λ r. ⌜ (Shows (now (spans .exit)) r (common (rangesIn (take m (now (spans .entry)))) (rangesIn (take n (now (more .entry)))))) × (r ≤ m + n) ⌝ }
 {
     move_to_end(spans, m);
     let mut k: usize = 0;
-    let mut i = 1024 - m;
+    let mut i = PLACES - m;
     let mut j: usize = 0;
-    while i < 1024 && j < n {
+    while i < PLACES && j < n {
         let x = span_in(spans[i]);
         let y = span_in(more[j]);
         let xy = both(x, y);
@@ -399,7 +405,7 @@ fn common_bars(
     tracks: u32,
     spans: &mut [[i64; 2]],
 ) -> usize
-    requires { ⌜ (Stores (now times) (now tags) n) × (1 ≤ tracks) × (tracks ≤ 4) × (length (now spans) ≡ 1024) ⌝ }
+    requires { ⌜ (Stores (now times) (now tags) n) × (1 ≤ tracks) × (tracks ≤ 4) × (length (now spans) ≡ places) ⌝ }
     ensures { λ r. ⌜ Shows (now (spans .exit)) r (commonRangesOf tracks (stored (now (times .entry)) (now (tags .entry)) n)) ⌝ }
 {
     let first = track_bars(times, tags, n, 1, spans);
@@ -409,7 +415,7 @@ fn common_bars(
     if first == 0 {
         return 0;
     }
-    let mut more = [[0i64; 2]; 1024];
+    let mut more = [[0i64; 2]; PLACES];
     let mut count = first;
     let mut t: u32 = 1;
     while t < tracks {
@@ -424,13 +430,7 @@ fn common_bars(
 // ---- the calls
 
 // A track's ranges, written to a lent list of places [start, end]; the list is written only where all of them fit.
-pub fn track_ranges(
-    h: Head,
-    times: &[[i64; 2]; 1024],
-    tags: &[[u32; 4]; 1024],
-    track: u32,
-    list: &mut [[i64; 2]],
-) -> Count
+pub fn track_ranges(h: Head, times: &Times, tags: &Tags, track: u32, list: &mut [[i64; 2]]) -> Count
     ensures { λ r. ⌜ Reported r (now (list .exit)) (trackRangesResult (length (now (list .entry))) track h (now (times .entry)) (now (tags .entry))) (now (list .entry)) ⌝ }
 {
     if !validation::well_formed(h, times, tags) {
@@ -442,7 +442,7 @@ pub fn track_ranges(
     if h.ntracks < track as usize {
         return Count::Refused(Refusal::NoTrack);
     }
-    let mut spans = [[0i64; 2]; 1024];
+    let mut spans = [[0i64; 2]; PLACES];
     let n = track_bars(times, tags, h.nframes, track, &mut spans);
     if list.len() < n {
         return Count::Refused(Refusal::ShortList);
@@ -452,18 +452,13 @@ pub fn track_ranges(
 }
 
 // The ranges common to all tracks, with the same care.
-pub fn common_ranges(
-    h: Head,
-    times: &[[i64; 2]; 1024],
-    tags: &[[u32; 4]; 1024],
-    list: &mut [[i64; 2]],
-) -> Count
+pub fn common_ranges(h: Head, times: &Times, tags: &Tags, list: &mut [[i64; 2]]) -> Count
     ensures { λ r. ⌜ Reported r (now (list .exit)) (commonRangesResult (length (now (list .entry))) h (now (times .entry)) (now (tags .entry))) (now (list .entry)) ⌝ }
 {
     if !validation::well_formed(h, times, tags) {
         return Count::Refused(Refusal::IllFormed);
     }
-    let mut spans = [[0i64; 2]; 1024];
+    let mut spans = [[0i64; 2]; PLACES];
     let all = common_bars(times, tags, h.nframes, h.ntracks as u32, &mut spans);
     if list.len() < all {
         return Count::Refused(Refusal::ShortList);

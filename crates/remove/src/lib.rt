@@ -10,6 +10,7 @@ ghost use Rattle.buffer_state.specs.Buffer.{zeroTrack};
 ghost use Rattle.buffer_state.specs.Answers.{counted, timesAfter, tagsAfter, listAfter, removeResult};
 ghost use Rattle.buffer_state.specs.Layout.{bufferOf};
 ghost use Rattle.buffer_state.specs.Lent.{framesOf, stateAt, wellFormedAt};
+ghost use Rattle.buffer_state.specs.Limits.{places};
 ghost use Rattle.buffer_state.specs.Refusals.{refused, done};
 ghost use Rattle.buffer_state.specs.Remove.{beforeBound, removed};
 ghost use Rattle.buffer_state.specs.WellFormed.{allOf};
@@ -20,7 +21,10 @@ use buffer_state::Count;
 use buffer_state::Counted;
 use buffer_state::Frame;
 use buffer_state::Head;
+use buffer_state::PLACES;
 use buffer_state::Refusal;
+use buffer_state::Tags;
+use buffer_state::Times;
 use buffer_state::Track;
 use seconds::EndMicros;
 use seconds::Micros;
@@ -217,7 +221,7 @@ fn remove_over(
     tags: &mut [[u32; 4]],
     fates: &mut [[u32; 2]],
 ) -> Counted
-    requires { ⌜ (wellFormedAt h (now times) (now tags) ≡ true) × (1024 ≤ length (now fates)) ⌝ }
+    requires { ⌜ (wellFormedAt h (now times) (now tags) ≡ true) × (places ≤ length (now fates)) ⌝ }
     ensures answer { λ r. ⌜ r ≡ counted h (done (removed start (boundIn end) (bufferOf (stateAt h (now (times .entry)) (now (tags .entry)))))) ⌝ }
     ensures times { λ r. ⌜ now (times .exit) ≡ timesAfter (done (removed start (boundIn end) (bufferOf (stateAt h (now (times .entry)) (now (tags .entry)))))) (now (times .entry)) ⌝ }
     ensures tags { λ r. ⌜ now (tags .exit) ≡ tagsAfter (done (removed start (boundIn end) (bufferOf (stateAt h (now (times .entry)) (now (tags .entry)))))) (now (tags .entry)) ⌝ }
@@ -247,8 +251,8 @@ pub fn remove(
     h: Head,
     start: f64,
     end: f64,
-    times: &mut [[i64; 2]; 1024],
-    tags: &mut [[u32; 4]; 1024],
+    times: &mut Times,
+    tags: &mut Tags,
     fates: &mut [[u32; 2]],
 ) -> Counted
     ensures answer { λ r. ⌜ r ≡ counted h (removeResult (length (now (fates .entry))) start end h (now (times .entry)) (now (tags .entry))) ⌝ }
@@ -259,7 +263,7 @@ pub fn remove(
     if !validation::well_formed(h, times, tags) {
         return buffer_state::refuse(h, Refusal::IllFormed);
     }
-    if fates.len() < 1024 {
+    if fates.len() < PLACES {
         return buffer_state::refuse(h, Refusal::ShortFates);
     }
     let stretch = stretch_of(start, end);

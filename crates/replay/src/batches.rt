@@ -4,11 +4,14 @@ use crate::answers;
 use crate::calls;
 use crate::calls::Call;
 use crate::calls::Parsed;
+use crate::marks::MOST_LENT;
+use crate::unread;
 use script::words::Room;
 use script::words::Words;
 use script::words::lent;
 use script::words::word;
 use slots::Batch;
+use text::Output;
 use text::read::Small;
 
 // ---- its own line
@@ -20,18 +23,32 @@ pub enum Opened {
     Not,
 }
 
-// Without the number of its frames no line after it is known to be one of them; a later word is missed only when the call is made.
-pub fn begun(line: &[u8], w: Words) -> Opened {
+// The line that is answered is one of the batch's, and was not read.
+fn not_read(b: Batch, out: &mut Output) -> Batch {
+    unread::note_line(out);
+    Batch { read: false, ..b }
+}
+
+// The batch with the lines that it is lent. A word that does not say so many is noted here, and answered when the call would be made.
+fn with_lines(b: Batch, line: &[u8], w: Words, out: &mut Output) -> Batch {
+    let Room::Is(lines) = lent(line, w, 2, b"fates=", LINES) else {
+        return not_read(b, out);
+    };
+    if MOST_LENT < lines {
+        return not_read(b, out);
+    }
+    Batch { lines, ..b }
+}
+
+// Without the number of its frames no line after it is known to be one of them.
+pub fn begun(line: &[u8], w: Words, out: &mut Output) -> Opened {
     let Small::Is(left) = calls::natural(word(line, w, 1)) else {
         return Opened::Not;
     };
     let mut b = slots::no_batch();
+    b.line = out[unread::LINE];
     b.left = left;
-    match lent(line, w, 2, b"fates=", LINES) {
-        Room::Is(lines) => b.lines = lines,
-        Room::Not => b.read = false,
-    }
-    Opened::Is(b)
+    Opened::Is(with_lines(b, line, w, out))
 }
 
 // ---- the lines of its frames
@@ -69,17 +86,21 @@ fn keep(b: Batch, row: [i64; 6], rows: &mut [[i64; 6]]) -> Batch {
     Batch { rows: k + 1, ..b }
 }
 
-pub fn with_frame(b: Batch, line: &[u8], cut: bool, w: Words, rows: &mut [[i64; 6]]) -> Batch
+pub fn with_frame(
+    b: Batch,
+    line: &[u8],
+    cut: bool,
+    w: Words,
+    rows: &mut [[i64; 6]],
+    out: &mut Output,
+) -> Batch
     requires { ⌜ 1 ≤ b .left ⌝ }
 {
     let mut d = b;
     d.left -= 1;
     match frame_of(line, cut, w) {
         Parsed::Call(c) => keep(d, row_of(c), rows),
-        Parsed::Unknown => {
-            d.read = false;
-            d
-        }
+        Parsed::Unknown => not_read(d, out),
     }
 }
 
@@ -91,9 +112,13 @@ pub fn kept(rows: &[[i64; 6]], n: usize) -> &[[i64; 6]] {
     &rows[0..n]
 }
 
-// A batch whose frames do not all come.
-pub fn cut_short(b: Batch) {
-    if 0 < b.left {
-        answers::unknown();
+// A batch whose frames do not all come. Where each line that came was read, it is the batch's own that was not.
+pub fn cut_short(b: Batch, out: &mut Output) {
+    if b.left == 0 {
+        return;
     }
+    if b.read {
+        unread::note(b.line, out);
+    }
+    answers::unknown_batch(out);
 }

@@ -1,4 +1,5 @@
 // A line as a call on a buffer, all but creation, in the numbers of call_rows.
+use crate::marks::MOST_LENT;
 use script::words::Room;
 use script::words::Words;
 use script::words::lent;
@@ -8,9 +9,7 @@ use text::read::Double;
 use text::read::Small;
 use text::read::Whole;
 
-const LINES: usize = 1024; // the lines lent where the script says nothing
-
-const PLACES: usize = 4096; // the ranges lent where the script says nothing
+const LINES: usize = buffer_state::PLACES; // the lines lent where the script says nothing
 
 pub struct Call {
     pub kind: u32,
@@ -42,7 +41,7 @@ fn bare(kind: u32) -> Call {
         start: 0.0,
         end: 0.0,
         lines: LINES,
-        places: PLACES,
+        places: MOST_LENT,
     }
 }
 
@@ -162,7 +161,7 @@ fn seconds_call(kind: u32, line: &[u8], w: Words) -> Parsed {
 }
 
 fn ranges_call(line: &[u8], w: Words) -> Parsed {
-    let Room::Is(places) = lent(line, w, 2, b"places=", PLACES) else {
+    let Room::Is(places) = lent(line, w, 2, b"places=", MOST_LENT) else {
         return Parsed::Unknown;
     };
     let Small::Is(track) = natural(word(line, w, 1)) else {
@@ -176,7 +175,7 @@ fn ranges_call(line: &[u8], w: Words) -> Parsed {
 }
 
 fn common_call(line: &[u8], w: Words) -> Parsed {
-    let Room::Is(places) = lent(line, w, 1, b"places=", PLACES) else {
+    let Room::Is(places) = lent(line, w, 1, b"places=", MOST_LENT) else {
         return Parsed::Unknown;
     };
     Parsed::Call(Call {

@@ -1,8 +1,11 @@
 // Standard input, line by line.
 ghost use Prim.Native.Nat.{_≤_};
+use script::words::begins;
 use script::words::part;
 
 const NEWLINE: u8 = 10;
+
+const RETURN: u8 = 13;
 
 // What was read and not yet taken stands in the chunk from one place up to another. The line that is being read has a length; it is
 // whole once its newline is found, or the input ended.
@@ -115,4 +118,33 @@ pub fn next_line(r: Reading, chunk: &mut [u8; 4096], line: &mut [u8; 131072]) ->
         }
     }
     q
+}
+
+// ---- what a line says
+
+// The script's first line, past the byte order mark that may stand before it.
+fn past_mark(line: &[u8]) -> &[u8] {
+    if begins(line, b"\xEF\xBB\xBF") {
+        return part(line, 3, line.len());
+    }
+    line
+}
+
+// A line up to the carriage return that may end it.
+fn before_return(line: &[u8]) -> &[u8] {
+    let n = line.len();
+    if n == 0 {
+        return line;
+    }
+    if line[n - 1] == RETURN {
+        return part(line, 0, n - 1);
+    }
+    line
+}
+
+pub fn text_of(line: &[u8], first: bool) -> &[u8] {
+    if first {
+        return before_return(past_mark(line));
+    }
+    before_return(line)
 }

@@ -1,6 +1,6 @@
 // The marks that a lent list holds before a call, and whether they are still there after it.
 
-pub const PLACES: usize = 4096; // the places of each list
+pub const MOST_LENT: usize = 4096; // the places of each list, as many as a script may ask for
 
 pub const LINE: u32 = 4294967295;
 
@@ -48,7 +48,7 @@ fn place_marked(
 }
 
 pub fn marked(fates: &[[u32; 2]], lines: usize, list: &[[i64; 2]], ranges: usize) -> bool {
-    for i in 0..PLACES {
+    for i in 0..MOST_LENT {
         if !place_marked(fates, lines, list, ranges, i) {
             return false;
         }
@@ -66,7 +66,7 @@ fn row_marked(rows: &[[i64; 6]], i: usize) -> bool {
 
 // Whether the rows from place n on hold their marks.
 pub fn rows_marked(rows: &[[i64; 6]], n: usize) -> bool {
-    for i in n..PLACES {
+    for i in n..MOST_LENT {
         if !row_marked(rows, i) {
             return false;
         }

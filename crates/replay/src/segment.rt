@@ -3,7 +3,7 @@ ghost use Prim.Native.Nat.{_≤_};
 ghost use lib.ListN.{length};
 use crate::answers;
 use crate::marks;
-use crate::marks::PLACES;
+use crate::marks::MOST_LENT;
 use buffer_state::Count;
 use fragments::Defaults;
 use script::words::Room;
@@ -12,6 +12,7 @@ use script::words::lent;
 use script::words::part;
 use script::words::word;
 use segments::SegmentTrack;
+use text::Output;
 use text::read::Small;
 
 // ---- the bytes
@@ -132,15 +133,15 @@ fn track_asked(line: &[u8], w: Words) -> Asked {
 
 // ---- the listing
 
-fn told(answer: Count, rows: &[[i64; 6]]) {
+fn told(answer: Count, rows: &[[i64; 6]], out: &mut Output) {
     match answer {
         Count::Done(n) => {
-            answers::samples(rows, n);
-            answers::end(marks::rows_marked(rows, n));
+            answers::samples(rows, n, out);
+            answers::end(marks::rows_marked(rows, n), out);
         }
         Count::Refused(why) => {
-            answers::refused(call_rows::number_of(why));
-            answers::end(marks::rows_marked(rows, 0));
+            answers::refused(call_rows::number_of(why), out);
+            answers::end(marks::rows_marked(rows, 0), out);
         }
     }
 }
@@ -153,31 +154,31 @@ fn listed(of: SegmentTrack, segment: &[u8], rows: &mut [[i64; 6]], places: usize
 }
 
 // A listing in rows that hold the marks.
-fn on_rows(of: SegmentTrack, segment: &[u8], places: usize)
+fn on_rows(of: SegmentTrack, segment: &[u8], places: usize, out: &mut Output)
     requires { ⌜ places ≤ 4096 ⌝ }
 {
     let mut rows = [[marks::TIME; 6]; 4096];
     let answer = listed(of, segment, &mut rows, places);
-    told(answer, &rows);
+    told(answer, &rows, out);
 }
 
-pub fn call(line: &[u8], w: Words) {
+pub fn call(line: &[u8], w: Words, out: &mut Output) {
     let mut bytes = [0u8; 65536]; // more than a line has digits for
-    let Room::Is(places) = lent(line, w, 8, b"places=", PLACES) else {
-        answers::unknown();
+    let Room::Is(places) = lent(line, w, 8, b"places=", MOST_LENT) else {
+        answers::unknown(out);
         return;
     };
-    if PLACES < places {
-        answers::unknown();
+    if MOST_LENT < places {
+        answers::unknown(out);
         return;
     }
     let Asked::Track(of) = track_asked(line, w) else {
-        answers::unknown();
+        answers::unknown(out);
         return;
     };
     let Bytes::Are(n) = read_bytes(word(line, w, 7), &mut bytes) else {
-        answers::unknown();
+        answers::unknown(out);
         return;
     };
-    on_rows(of, part(&bytes, 0, n), places);
+    on_rows(of, part(&bytes, 0, n), places, out);
 }

@@ -2,6 +2,7 @@
 ghost use mathlib.Core.Path.{_≡_};
 ghost use Prim.Native.Nat.{_≤_, _<_};
 ghost use lib.ListN.{length};
+ghost use Rattle.buffer_state.specs.Limits.{places};
 use crate::words::Words;
 use crate::words::begins;
 use crate::words::part;
@@ -9,8 +10,11 @@ use crate::words::word;
 use buffer_state::Group;
 use buffer_state::Head;
 use buffer_state::Mode;
+use buffer_state::PLACES;
 use buffer_state::Setting;
 use buffer_state::Settings;
+use buffer_state::Tags;
+use buffer_state::Times;
 use buffer_state::Track;
 use buffer_state::WindowEnd;
 use slots::ALL;
@@ -425,19 +429,20 @@ fn unknown(slot: Slot) -> Poked {
 }
 
 // The place named by the third word of five, from 1 to `most`; 0 where there is none.
-fn place(line: &[u8], w: Words, most: u32) -> usize
+fn place(line: &[u8], w: Words, most: usize) -> usize
     ensures { λ r. ⌜ r ≤ most ⌝ }
 {
     if w.count != 5 {
         return 0;
     }
-    let Small::Is(i) = text::read::as_small(word(line, w, 2)) else {
+    let Small::Is(n) = text::read::as_small(word(line, w, 2)) else {
         return 0;
     };
+    let i = n as usize;
     if most < i {
         return 0;
     }
-    i as usize
+    i
 }
 
 // `track I FIELD ..`
@@ -614,9 +619,9 @@ fn poke_frame(
     times: &mut [[i64; 2]],
     tags: &mut [[u32; 4]],
 ) -> Poked
-    requires { ⌜ (length (now times) ≡ 1024) × (length (now tags) ≡ 1024) ⌝ }
+    requires { ⌜ (length (now times) ≡ places) × (length (now tags) ≡ places) ⌝ }
 {
-    let i = place(line, w, 1024);
+    let i = place(line, w, PLACES);
     if i < 1 {
         return unknown(slot);
     }
@@ -636,13 +641,7 @@ fn poke_frame(
 
 // ---- any poke
 
-pub fn poke(
-    slot: Slot,
-    line: &[u8],
-    w: Words,
-    times: &mut [[i64; 2]; 1024],
-    tags: &mut [[u32; 4]; 1024],
-) -> Poked {
+pub fn poke(slot: Slot, line: &[u8], w: Words, times: &mut Times, tags: &mut Tags) -> Poked {
     let name = word(line, w, 1);
     if check::same(name, b"frame") {
         return poke_frame(slot, line, w, times, tags);

@@ -84,10 +84,10 @@ blank : {A B : Type 0} (f : A → B) (z : A) (n : ℕ) (l : List B) → length l
 blank f z n l e = rw (drop-of-length-le l {i = n} (omega arith), append-nil (replicate (n - 0) (f z))) (sym (map-replicate f z (n - 0)))
 
 module _ (kinds : List ℕ) where
-  pub blank-times : (ts : List (List ℤ)) → length ts ≡ places → cleared (timeOf zeroFrame) 0 1024 ts ≡ timesIn (fresh kinds)
+  pub blank-times : (ts : List (List ℤ)) → length ts ≡ places → cleared (timeOf zeroFrame) 0 places ts ≡ timesIn (fresh kinds)
   unfolding timesOf
-  blank-times ts e = blank timeOf zeroFrame 1024 ts e
+  blank-times ts e = blank timeOf zeroFrame places ts e
 
-  pub blank-tags : (gs : List (List ℕ)) → length gs ≡ places → cleared (tagOf zeroFrame) 0 1024 gs ≡ tagsIn (fresh kinds)
+  pub blank-tags : (gs : List (List ℕ)) → length gs ≡ places → cleared (tagOf zeroFrame) 0 places gs ≡ tagsIn (fresh kinds)
   unfolding tagsOf
-  blank-tags gs e = blank tagOf zeroFrame 1024 gs e
+  blank-tags gs e = blank tagOf zeroFrame places gs e

@@ -21,10 +21,13 @@ use buffer_state::Changed;
 use buffer_state::Group;
 use buffer_state::Head;
 use buffer_state::Mode;
+use buffer_state::PLACES;
 use buffer_state::Read;
 use buffer_state::Refusal;
 use buffer_state::Setting;
 use buffer_state::Settings;
+use buffer_state::Tags;
+use buffer_state::Times;
 use buffer_state::Track;
 use buffer_state::WindowEnd;
 use seconds::EndMicros;
@@ -75,7 +78,7 @@ fn open_window(o: Setting) -> Settings
 }
 
 // Abort: refusal 1 only.
-pub fn abort(h: Head, times: &[[i64; 2]; 1024], tags: &[[u32; 4]; 1024]) -> Changed
+pub fn abort(h: Head, times: &Times, tags: &Tags) -> Changed
     ensures { λ r. ⌜ r ≡ abortAnswer h (now (times .entry)) (now (tags .entry)) ⌝ }
 {
     if !validation::well_formed(h, times, tags) {
@@ -97,7 +100,7 @@ pub fn abort(h: Head, times: &[[i64; 2]; 1024], tags: &[[u32; 4]; 1024]) -> Chan
 }
 
 // Setting sequence sets group start = group end; setting segments changes the mode only.
-pub fn set_mode(h: Head, times: &[[i64; 2]; 1024], tags: &[[u32; 4]; 1024], m: Mode) -> Changed
+pub fn set_mode(h: Head, times: &Times, tags: &Tags, m: Mode) -> Changed
     ensures { λ r. ⌜ r ≡ modeAnswer m h (now (times .entry)) (now (tags .entry)) ⌝ }
 {
     if !validation::well_formed(h, times, tags) {
@@ -153,7 +156,7 @@ fn with_offset(h: Head, x: f64, z: i64) -> Head
 }
 
 // Set the offset: refusals 1 and 5 in that order.
-pub fn set_offset(h: Head, times: &[[i64; 2]; 1024], tags: &[[u32; 4]; 1024], x: f64) -> Changed
+pub fn set_offset(h: Head, times: &Times, tags: &Tags, x: f64) -> Changed
     ensures { λ r. ⌜ r ≡ offsetAnswer x h (now (times .entry)) (now (tags .entry)) ⌝ }
 {
     if !validation::well_formed(h, times, tags) {
@@ -195,12 +198,7 @@ fn start_at(h: Head, x: f64, z: i64) -> Changed
 }
 
 // Set the window start: refusals 1, 5 and 6 in that order.
-pub fn set_window_start(
-    h: Head,
-    times: &[[i64; 2]; 1024],
-    tags: &[[u32; 4]; 1024],
-    x: f64,
-) -> Changed
+pub fn set_window_start(h: Head, times: &Times, tags: &Tags, x: f64) -> Changed
     ensures { λ r. ⌜ r ≡ windowStartAnswer x h (now (times .entry)) (now (tags .entry)) ⌝ }
 {
     if !validation::well_formed(h, times, tags) {
@@ -249,7 +247,7 @@ fn end_at(h: Head, x: f64, z: i64) -> Changed
 }
 
 // Set the window end: refusals 1, 5 and 6 in that order.
-pub fn set_window_end(h: Head, times: &[[i64; 2]; 1024], tags: &[[u32; 4]; 1024], x: f64) -> Changed
+pub fn set_window_end(h: Head, times: &Times, tags: &Tags, x: f64) -> Changed
     ensures { λ r. ⌜ r ≡ windowEndAnswer x h (now (times .entry)) (now (tags .entry)) ⌝ }
 {
     if !validation::well_formed(h, times, tags) {
@@ -264,7 +262,7 @@ pub fn set_window_end(h: Head, times: &[[i64; 2]; 1024], tags: &[[u32; 4]; 1024]
 }
 
 // The three settings in seconds, as they were given.
-pub fn read_settings(h: Head, times: &[[i64; 2]; 1024], tags: &[[u32; 4]; 1024]) -> Read
+pub fn read_settings(h: Head, times: &Times, tags: &Tags) -> Read
     ensures { λ r. ⌜ r ≡ settingsAnswer h (now (times .entry)) (now (tags .entry)) ⌝ }
 {
     if !validation::well_formed(h, times, tags) {
@@ -391,13 +389,13 @@ fn create_in(kinds: &[u8], times: &mut [[i64; 2]], tags: &mut [[u32; 4]]) -> Cha
     if !kinds_known(kinds) {
         return no_head();
     }
-    places::clear_times(times, 0, 1024);
-    places::clear_tags(tags, 0, 1024);
+    places::clear_times(times, 0, PLACES);
+    places::clear_tags(tags, 0, PLACES);
     done(fresh_head(fresh_tracks(kinds), n))
 }
 
 // A buffer from a lent list of kinds. It clears the arrays that it is lent; refused, it touches nothing.
-pub fn create(kinds: &[u8], times: &mut [[i64; 2]; 1024], tags: &mut [[u32; 4]; 1024]) -> Changed
+pub fn create(kinds: &[u8], times: &mut Times, tags: &mut Tags) -> Changed
     ensures answer { λ r. ⌜ r ≡ createAnswer (now (kinds .entry)) ⌝ }
     ensures times { λ r. ⌜ now (times .exit) ≡ timesCreated (create (now (kinds .entry))) (now (times .entry)) ⌝ }
     ensures tags { λ r. ⌜ now (tags .exit) ≡ tagsCreated (create (now (kinds .entry))) (now (tags .entry)) ⌝ }

@@ -4,6 +4,8 @@ ghost use mathlib.Core.Path.{_≡_};
 ghost use lib.ListN.{length};
 ghost use Rattle.slots.specs.Slots.{setOf, slotOf, togetherOf, holdsAll, handedOf, usedOf, withUsed};
 use buffer_state::Head;
+use buffer_state::Tags;
+use buffer_state::Times;
 use buffer_state::Track;
 
 pub const ALL: u8 = 7; // the three values of a track, a bit each
@@ -17,9 +19,10 @@ pub struct Slot {
     pub spare: f64,
 }
 
-// A batch, whose frames stand in the lines after it: how many of them are still to come, how many rows are kept, the fate lines that it is
-// lent, and whether all of it could be read so far.
+// A batch, whose frames stand in the lines after it: the number of its own line, how many frames are still to come, how many rows are kept,
+// the fate lines that it is lent, and whether all of it could be read so far.
 pub struct Batch {
+    pub line: u64,
     pub left: u32,
     pub rows: usize,
     pub lines: usize,
@@ -73,6 +76,7 @@ fn empty() -> Slot {
 // No frames are to come.
 pub fn no_batch() -> Batch {
     Batch {
+        line: 0,
         left: 0,
         rows: 0,
         lines: 0,
@@ -176,12 +180,7 @@ fn copy_tags(from: &[[u32; 4]], to: &mut [[u32; 4]])
 }
 
 // A store saved or restored.
-pub fn copy_store(
-    times: &[[i64; 2]; 1024],
-    tags: &[[u32; 4]; 1024],
-    to_times: &mut [[i64; 2]; 1024],
-    to_tags: &mut [[u32; 4]; 1024],
-)
+pub fn copy_store(times: &Times, tags: &Tags, to_times: &mut Times, to_tags: &mut Tags)
     ensures times { λ r. ⌜ now («to_times» .exit) ≡ now (times .entry) ⌝ }
     ensures tags { λ r. ⌜ now («to_tags» .exit) ≡ now (tags .entry) ⌝ }
 {

@@ -22,7 +22,7 @@ use Rattle.taking.proofs.ArmLaws.{stepped-walk}
 use Rattle.taking.proofs.TurnLaws.{map-read, later-read, written-all, cleared-all}
 use Rattle.taking.proofs.LoopLaws.{lineOf, stored, marks, Taking}
 
-module _ (ts : List (List ℤ)) (gs ls : List (List ℕ)) (n : ℕ) (p : Frame → Bool) (cause : ℕ) (few : n ≤ 1024) (long : Lengths ts gs) (hold : Holding ts gs n) where
+module _ (ts : List (List ℤ)) (gs ls : List (List ℕ)) (n : ℕ) (p : Frame → Bool) (cause : ℕ) (few : n ≤ places) (long : Lengths ts gs) (hold : Holding ts gs n) where
   pub full : n ≤ length (framesOf ts gs)
   full = omega (arith, frames-length ts gs (long .0 ∙ sym (long .1)), long .0)
 

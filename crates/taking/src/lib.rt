@@ -100,7 +100,7 @@ pub fn take_out(
     cause: u32,
     fates: &mut [[u32; 2]],
 ) -> Taken
-    requires { ⌜ (n ≤ 1024) × Lengths (now times) (now tags) × Holding (now times) (now tags) n × (sorted (take n (framesOf (now times) (now tags))) ≡ true) × (allOf onTrack (take n (framesOf (now times) (now tags))) ≡ true) × (1 ≤ cause) × (n ≤ length (now fates)) × (first ≤ n) × (allOf (λ (g : Frame). not (inSpans spans g)) (take first (take n (framesOf (now times) (now tags)))) ≡ true) ⌝ }
+    requires { ⌜ (n ≤ places) × Lengths (now times) (now tags) × Holding (now times) (now tags) n × (sorted (take n (framesOf (now times) (now tags))) ≡ true) × (allOf onTrack (take n (framesOf (now times) (now tags))) ≡ true) × (1 ≤ cause) × (n ≤ length (now fates)) × (first ≤ n) × (allOf (λ (g : Frame). not (inSpans spans g)) (take first (take n (framesOf (now times) (now tags)))) ≡ true) ⌝ }
     ensures times { λ r. ⌜ now (times .exit) ≡ timesOf (padded places zeroFrame (kept (takenMarks spans cause (take n (framesOf (now (times .entry)) (now (tags .entry))))))) ⌝ }
     ensures tags { λ r. ⌜ now (tags .exit) ≡ tagsOf (padded places zeroFrame (kept (takenMarks spans cause (take n (framesOf (now (times .entry)) (now (tags .entry))))))) ⌝ }
     ensures lines { λ r. ⌜ now (fates .exit) ≡ linesThen (takenMarks spans cause (take n (framesOf (now (times .entry)) (now (tags .entry))))) (now (fates .entry)) ⌝ }

@@ -13,6 +13,7 @@ use Rattle.sorting.specs.Sorting.{occurrences}
 use Rattle.buffer_state.specs.declared.Frame.{Frame}
 use Rattle.buffer_state.specs.Layout.{zeroFrame, isZeroFrame}
 use Rattle.buffer_state.specs.Lent.{frameOf, framesOf, Lengths, plainTime, plainTag}
+use Rattle.buffer_state.specs.Limits.{places}
 use Rattle.buffer_state.specs.WellFormed.{allOf, zeroInt, goodFrame, sorted, distinctNumbers}
 use Rattle.numbers.specs.Numbers.{numbersOf, noRepeat}
 use Rattle.numbers.proofs.NumberLaws.{numbers-take}
@@ -106,7 +107,7 @@ ordered true true false true f true s d = refl
 ordered true true true true false true s d = refl
 ordered true true true true true true s d = refl
 
-module _ (n tracks last : ℕ) (ts : List (List ℤ)) (gs : List (List ℕ)) (k : Lengths ts gs) (few : n ≤ 1024) where
+module _ (n tracks last : ℕ) (ts : List (List ℤ)) (gs : List (List ℕ)) (k : Lengths ts gs) (few : n ≤ places) where
   same-take : length (take n ts) ≡ length (take n gs)
   same-take = rw (length-take, length-take, k .0, k .1)
 

@@ -10,6 +10,7 @@ use Rattle.laws.proofs.ListLaws.{first-length}
 use Rattle.buffer_state.specs.declared.Frame.{Frame}
 use Rattle.buffer_state.specs.State.{State}
 use Rattle.buffer_state.specs.Layout.{isZeroFrame, isZeroTrack, laidOut, wellFormed}
+use Rattle.buffer_state.specs.Limits.{places}
 use Rattle.buffer_state.specs.WellFormed.{allOf, goodTrack, goodTracks, goodFrame, goodFrames, sorted, distinctNumbers, goodGroup, goodSettings, goodBuffer}
 use Rattle.validation.specs.Tests.{placed}
 use Rattle.validation.proofs.PlaceLaws.{placed-parts}
@@ -25,20 +26,20 @@ reordered a true false true s d r = refl
 reordered false true true y s d r = refl
 reordered true true true y s d r = refl
 
-module _ (s : State) (frames : length (s .frames) ≡ 1024) (tracks : length (s .tracks) ≡ 4) where
-  pub too-many-frames : 1024 < s .nframes → wellFormed s ≡ false
+module _ (s : State) (frames : length (s .frames) ≡ places) (tracks : length (s .tracks) ≡ 4) where
+  pub too-many-frames : places < s .nframes → wellFormed s ≡ false
   unfolding wellFormed laidOut
-  too-many-frames h = rw (eq-eqb _ _ frames, eq-eqb _ _ tracks, lt-leb (s .nframes) 1024 h)
+  too-many-frames h = rw (eq-eqb _ _ frames, eq-eqb _ _ tracks, lt-leb (s .nframes) places h)
 
-  pub too-many-tracks : s .nframes ≤ 1024 → 4 < s .ntracks → wellFormed s ≡ false
+  pub too-many-tracks : s .nframes ≤ places → 4 < s .ntracks → wellFormed s ≡ false
   unfolding wellFormed laidOut
-  too-many-tracks n h = rw (eq-eqb _ _ frames, eq-eqb _ _ tracks, le-leb (s .nframes) 1024 n, lt-leb (s .ntracks) 4 h)
+  too-many-tracks n h = rw (eq-eqb _ _ frames, eq-eqb _ _ tracks, le-leb (s .nframes) places n, lt-leb (s .ntracks) 4 h)
 
   pub no-tracks : s .ntracks ≤ 4 → s .ntracks < 1 → wellFormed s ≡ false
   unfolding wellFormed goodBuffer goodTracks
   no-tracks m h = rw (first-length (s .tracks) (s .ntracks) (omega arith), lt-leb 1 (s .ntracks) h) (and-false (laidOut s))
 
-  pub whole : s .nframes ≤ 1024 → s .ntracks ≤ 4 → 1 ≤ s .ntracks → s .last ≤ 4294967295
+  pub whole : s .nframes ≤ places → s .ntracks ≤ 4 → 1 ≤ s .ntracks → s .last ≤ 4294967295
       → (placed goodTrack isZeroTrack (s .ntracks) (s .tracks)
       && (((placed (goodFrame (s .ntracks) (s .last)) isZeroFrame (s .nframes) (s .frames) && sorted (take (s .nframes) (s .frames))) && distinctNumbers (take (s .nframes) (s .frames))) && (goodGroup (s .group) && goodSettings (s .settings))))
       ≡ wellFormed s
@@ -48,14 +49,14 @@ module _ (s : State) (frames : length (s .frames) ≡ 1024) (tracks : length (s 
       rw (
         eq-eqb _ _ frames,
         eq-eqb _ _ tracks,
-        le-leb (s .nframes) 1024 n,
+        le-leb (s .nframes) places n,
         le-leb (s .ntracks) 4 m,
         le-leb (s .last) 4294967295 last,
         first-length (s .tracks) (s .ntracks) (omega arith),
         first-length (s .frames) (s .nframes) (omega arith),
         le-leb 1 (s .ntracks) some,
         le-leb (s .ntracks) 4 m,
-        le-leb (s .nframes) 1024 n,
+        le-leb (s .nframes) places n,
         placed-parts (goodFrame (s .ntracks) (s .last)) isZeroFrame,
         placed-parts goodTrack isZeroTrack,
       )

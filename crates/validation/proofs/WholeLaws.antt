@@ -28,7 +28,7 @@ reordered true true true true true true = refl
 reordered true true true true true false = refl
 
 module _ (h : Head) (ts : List (List ℤ)) (gs : List (List ℕ)) (k : Lengths ts gs) (full : length (h .tracks) ≡ 4) where
-  all : length (framesOf ts gs) ≡ 1024
+  all : length (framesOf ts gs) ≡ places
   all = frames-length ts gs (k .0 ∙ sym (k .1)) ∙ k .0
 
   ill : wellFormed (stateAt h ts gs) ≡ false → wellFormedAt h ts gs ≡ false
@@ -39,10 +39,10 @@ module _ (h : Head) (ts : List (List ℤ)) (gs : List (List ℕ)) (k : Lengths t
   long : (eqb (length ts) places && eqb (length gs) places) ≡ true
   long = and-both (eq-eqb (length ts) places (k .0)) (eq-eqb (length gs) places (k .1))
 
-  pub too-many : 1024 < h .nframes → wellFormedAt h ts gs ≡ false
+  pub too-many : places < h .nframes → wellFormedAt h ts gs ≡ false
   too-many m = ill (too-many-frames (stateAt h ts gs) all full m)
 
-  pub well-formed-parts : h .nframes ≤ 1024 → h .last ≤ 4294967295 → wellFormedAt h ts gs ≡ (headTest h && framesTest (h .nframes) (h .ntracks) (h .last) ts gs)
+  pub well-formed-parts : h .nframes ≤ places → h .last ≤ 4294967295 → wellFormedAt h ts gs ≡ (headTest h && framesTest (h .nframes) (h .ntracks) (h .last) ts gs)
   unfolding wellFormedAt headTest framesTest
   well-formed-parts few last =
       let s = stateAt h ts gs in

@@ -11,7 +11,7 @@ ghost use Rattle.sorting.specs.Sorting.{following};
 ghost use Rattle.buffer_state.specs.Buffer.{endOf};
 ghost use Rattle.buffer_state.specs.Layout.{zeroFrame, isZeroTrack};
 ghost use Rattle.buffer_state.specs.Lent.{frameOf, Lengths, plainTime, plainTag, wellFormedAt};
-ghost use Rattle.buffer_state.specs.Limits.{resultTime, goodDuration};
+ghost use Rattle.buffer_state.specs.Limits.{resultTime, goodDuration, places};
 ghost use Rattle.buffer_state.specs.Store.{before};
 ghost use Rattle.buffer_state.specs.WellFormed.{allOf, goodTrack, goodFrame, goodGroup, converts, goodOffset, goodStart, goodEnd, goodSettings};
 ghost use Rattle.numbers.specs.Numbers.{numbersOf};
@@ -19,8 +19,11 @@ ghost use Rattle.validation.specs.Tests.{placed, isZeroTime, isZeroTag, 
 use buffer_state::Frame;
 use buffer_state::Group;
 use buffer_state::Head;
+use buffer_state::PLACES;
 use buffer_state::Setting;
 use buffer_state::Settings;
+use buffer_state::Tags;
+use buffer_state::Times;
 use buffer_state::Track;
 use buffer_state::WindowEnd;
 use seconds::Micros;
@@ -334,7 +337,7 @@ fn examine(times: &[[i64; 2]], tags: &[[u32; 4]], n: usize, tracks: u32, last: u
 // ---- the whole
 
 fn good_frames(times: &[[i64; 2]], tags: &[[u32; 4]], n: usize, tracks: u32, last: u32) -> bool
-    requires { ⌜ (n ≤ 1024) × Lengths (now times) (now tags) ⌝ }
+    requires { ⌜ (n ≤ places) × Lengths (now times) (now tags) ⌝ }
     ensures { λ r. ⌜ r ≡ framesTest n tracks last (now (times .entry)) (now (tags .entry)) ⌝ }
 {
     if !no_times(times, n) {
@@ -359,7 +362,7 @@ pub fn is_well_formed(h: Head, times: &[[i64; 2]], tags: &[[u32; 4]]) -> bool
     ensures { λ r. ⌜ r ≡ wellFormedAt h (now (times .entry)) (now (tags .entry)) ⌝ }
 {
     let n = h.nframes;
-    if 1024 < n {
+    if PLACES < n {
         return false;
     }
     if !good_head(h) {
@@ -371,7 +374,7 @@ pub fn is_well_formed(h: Head, times: &[[i64; 2]], tags: &[[u32; 4]]) -> bool
 }
 
 // The test with which every call on a state begins.
-pub fn well_formed(h: Head, times: &[[i64; 2]; 1024], tags: &[[u32; 4]; 1024]) -> bool
+pub fn well_formed(h: Head, times: &Times, tags: &Tags) -> bool
     ensures { λ r. ⌜ r ≡ wellFormedAt h (now (times .entry)) (now (tags .entry)) ⌝ }
 {
     is_well_formed(h, times, tags)

@@ -5,7 +5,7 @@ use std::collections::BTreeMap;
 use script::Call;
 use second::State;
 
-use crate::answers::{batch, fates};
+use crate::told::{batch, fates};
 
 /// The frames of one buffer that no fate line has named, each with its track.
 #[derive(Clone, Debug, Default)]

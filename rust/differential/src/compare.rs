@@ -1,37 +1,15 @@
 //! One script, two implementations, and every answer, list and state compared.
 
-use std::fmt;
-
 use script::{state_line, Call, Session, Subject};
 use second::State;
 
 use crate::account::Accounts;
 use crate::answers::Answers;
+use crate::parting::Parting;
 use crate::singles::Singles;
 
 /// The calls that only read.
 const READING: [&str; 5] = ["settings", "ranges", "common", "segment", "state"];
-
-/// Where two implementations part.
-#[derive(Clone, Debug, PartialEq, Eq)]
-pub struct Parting {
-    /// The place of the call in the script, from 1.
-    pub number: usize,
-    /// The call itself.
-    pub call: String,
-    /// What the one says, or is.
-    pub one: String,
-    /// What the other says, or is.
-    pub other: String,
-}
-
-impl fmt::Display for Parting {
-    fn fmt(&self, f: &mut fmt::Formatter<'_>) -> fmt::Result {
-        writeln!(f, "call {}: {}", self.number, self.call)?;
-        writeln!(f, "one:   {}", self.one)?;
-        write!(f, "other: {}", self.other)
-    }
-}
 
 /// Puts a script, call by call, to two implementations; tells where they part first.
 pub fn compare<A: Subject, B: Subject>(

@@ -9,9 +9,8 @@ use second::{
 };
 
 use crate::answers::Answers;
-use crate::compare::Parting;
+use crate::parting::{Failure, Parting};
 use crate::rng::Rng;
-use crate::run::Failure;
 use crate::singles::Singles;
 
 /// A line that no batch writes.

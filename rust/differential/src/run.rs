@@ -1,12 +1,11 @@
 //! A run over many scripts, and the shortest script that still shows a difference.
 
-use std::fmt;
-
 use script::Subject;
 
 use crate::answers::Answers;
-use crate::compare::{compare, Parting};
+use crate::compare::compare;
 use crate::generate::script;
+use crate::parting::{Failure, Parting};
 use crate::rows::compare_rows;
 use crate::segments::compare_segments;
 use crate::writer::{batch, batch_parts};
@@ -22,38 +21,6 @@ pub struct Plan {
     pub segments: u64,
     /// How many lists of rows that no script can hold, one a seed.
     pub rows: u64,
-}
-
-/// A difference between two implementations.
-#[derive(Clone, Debug)]
-pub struct Failure {
-    /// The seed of the script that showed it.
-    pub seed: u64,
-    /// What is left of the script when every call and every frame that can go is gone.
-    pub script: Vec<String>,
-    /// Where they part in it.
-    pub parting: Box<Parting>,
-}
-
-impl fmt::Display for Failure {
-    fn fmt(&self, f: &mut fmt::Formatter<'_>) -> fmt::Result {
-        writeln!(f, "seed {}, shortened:", self.seed)?;
-        for line in self.script.iter().flat_map(|call| call.lines()) {
-            writeln!(f, "    {line}")?;
-        }
-        write!(f, "{}", self.parting)
-    }
-}
-
-impl Failure {
-    /// One that a single call shows.
-    pub(crate) fn of_call(seed: u64, parting: Box<Parting>) -> Self {
-        Self {
-            seed,
-            script: vec![parting.call.clone()],
-            parting,
-        }
-    }
 }
 
 /// Puts the scripts, the segments and the lists of rows of a plan to two implementations.

@@ -1,17 +1,18 @@
 //! Generated segments, well-made and damaged, put to two implementations at once.
 
+mod case;
 mod damage;
 mod make;
 mod tree;
 mod values;
 
 use script::{Place, Subject};
-use second::{Row, SegmentTrack};
+use second::Row;
 
 use crate::answers::Answers;
-use crate::compare::Parting;
+use crate::parting::{Failure, Parting};
 use crate::rng::Rng;
-use crate::run::Failure;
+use case::Case;
 
 /// The damaged segments that are made of each well-made one.
 const DAMAGED: u64 = 3;
@@ -21,40 +22,6 @@ const MARK: Row = [i64::MIN, i64::MAX, i64::MIN, i64::MAX, i64::MIN, i64::MAX];
 
 /// Refusal 12, which no well-made segment is given.
 const MALFORMED: u32 = 12;
-
-/// A segment, what is asked of it, and how many places are lent.
-#[derive(Clone, Debug)]
-pub(crate) struct Case {
-    pub(crate) of: SegmentTrack,
-    pub(crate) bytes: Vec<u8>,
-    pub(crate) places: usize,
-}
-
-impl Case {
-    /// The call as a script has it.
-    pub(crate) fn line(&self) -> String {
-        let SegmentTrack {
-            id,
-            track,
-            timescale,
-            duration,
-            size,
-            flags,
-        } = self.of;
-        let bytes = match self.bytes.is_empty() {
-            true => "-".to_string(),
-            false => self
-                .bytes
-                .iter()
-                .map(|byte| format!("{byte:02x}"))
-                .collect(),
-        };
-        let places = self.places;
-        format!(
-            "segment {id} {track} {timescale} {duration} {size} {flags} {bytes} places={places}"
-        )
-    }
-}
 
 /// A well-made segment, or one damaged.
 pub(crate) fn any(rng: &mut Rng) -> Case {

@@ -76,7 +76,7 @@ impl Writer {
             " fates=1087",
             " fates=1087",
             " fates=1088",
-            " fates=5000",
+            " fates=4096",
         ]);
         self.batch(words, |writer| {
             for _ in 0..frames {

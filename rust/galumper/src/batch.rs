@@ -4,9 +4,9 @@
 use crate::buffer::Buffer;
 use crate::calls::done;
 use crate::foreign;
+use crate::listing::ListedFrame;
 use crate::lists::Fate;
 use crate::names::Refusal;
-use crate::segment::ListedFrame;
 
 /// The most frames of a batch.
 pub const BATCH: usize = 64;

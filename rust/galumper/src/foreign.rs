@@ -2,9 +2,9 @@
 //! value, and the arrays are lent.
 
 use crate::buffer::{Head, Offered, Tags, Times};
+use crate::listing::{ListedFrame, SegmentTrack};
 use crate::lists::{Fate, Range};
 use crate::names::Kind;
-use crate::segment::{ListedFrame, SegmentTrack};
 
 /// The number of the layout and of the functions below; the library has its own to compare.
 pub const ABI: u32 = 4;

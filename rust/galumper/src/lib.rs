@@ -26,6 +26,7 @@ mod batch;
 mod buffer;
 mod calls;
 mod foreign;
+mod listing;
 mod lists;
 mod names;
 mod segment;
@@ -35,6 +36,7 @@ pub use buffer::{
     Buffer, Group, Head, Offered, Setting, Settings, Tags, Times, Track, PLACES, SIZE, TRACKS,
 };
 pub use calls::{create, matches, Reading};
+pub use listing::{ListedFrame, SegmentTrack};
 pub use lists::{held, Fate, Range, FATES, RANGES};
 pub use names::{Cause, Kind, Mode, Refusal};
-pub use segment::{list_segment, ListedFrame, SegmentTrack};
+pub use segment::list_segment;

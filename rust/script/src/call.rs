@@ -1,10 +1,10 @@
 //! Reading a call of a script.
 
-use std::str::FromStr;
-
 use second::{Mode, Offered, SegmentTrack, BATCH_LINES, FRAME_PLACES};
 
+use crate::lines::LONGEST_LINE;
 use crate::poke::Poke;
+use crate::words::{bytes, flag, mode, natural, seconds, whole};
 
 /// A call, with the lengths of the lists lent to it.
 #[derive(Clone, Debug, PartialEq)]
@@ -47,21 +47,21 @@ pub enum Call {
     Poke(Poke),
 }
 
-/// The lengths of lent lists, as `name=K` at the end of a call sets them.
-struct Lengths {
-    fates: Option<usize>,
-    places: usize,
-}
+/// No list that a script lends is longer than this.
+const LONGEST_LIST: usize = 4096;
 
-impl Lengths {
-    /// The lines of the fate list; where none are named, as many as every append takes.
-    fn lines(&self) -> usize {
-        self.fates.unwrap_or(FRAME_PLACES)
-    }
-}
+/// The calls that are lent a list: the word `name=K` that says how long it is, and its length where
+/// that is left out.
+const LENT: [(&str, &str, usize); 6] = [
+    ("append", "fates", FRAME_PLACES),
+    ("remove", "fates", FRAME_PLACES),
+    (BATCH, "fates", BATCH_LINES),
+    ("ranges", "places", LONGEST_LIST),
+    ("common", "places", LONGEST_LIST),
+    ("segment", "places", LONGEST_LIST),
+];
 
-/// No list that a script lends is longer than this; it only keeps a wild number from being lent.
-const LONGEST_LIST: usize = 1 << 20;
+const BATCH: &str = "batch";
 
 impl Call {
     /// Reads a call, a batch with the lines of its frames; nothing if it is not one of the paper's.
@@ -74,37 +74,32 @@ impl Call {
 
     /// A batch, whose frames must be as many as its first line says.
     fn read_batch(call: &str) -> Option<Self> {
-        let mut lines = call.lines();
-        let mut words: Vec<&str> = lines.next()?.split(' ').collect();
-        let lengths = lengths(&mut words)?;
-        let ["batch", count] = *words else {
-            return None;
-        };
+        let mut lines = call.split('\n');
+        let (count, length) = batch(lines.next()?)?;
         let frames: Vec<Offered> = lines.map(frame).collect::<Option<_>>()?;
-        let whole_batch = frames.len() == whole(count)?;
-        whole_batch.then_some(Self::Batch(frames, lengths.fates.unwrap_or(BATCH_LINES)))
+        (frames.len() == count).then_some(Self::Batch(frames, length))
     }
 
     fn read_line(line: &str) -> Option<Self> {
-        let mut words: Vec<&str> = line.split(' ').collect();
-        let lengths = lengths(&mut words)?;
+        let mut words = words(line)?;
+        let length = lent(&mut words)?;
         Some(match *words {
             ["create", ref kinds @ ..] => Self::Create(
                 kinds
                     .iter()
-                    .map(|kind| whole(kind))
+                    .map(|kind| natural(kind))
                     .collect::<Option<_>>()?,
             ),
-            ["append", ref frame @ ..] => Self::Append(offered(frame)?, lengths.lines()),
-            ["remove", start, end] => Self::Remove(seconds(start)?, seconds(end)?, lengths.lines()),
+            ["append", ref frame @ ..] => Self::Append(offered(frame)?, length),
+            ["remove", start, end] => Self::Remove(seconds(start)?, seconds(end)?, length),
             ["abort"] => Self::Abort,
             ["mode", word] => Self::Mode(mode(word)?),
             ["offset", time] => Self::Offset(seconds(time)?),
             ["window-start", time] => Self::WindowStart(seconds(time)?),
             ["window-end", time] => Self::WindowEnd(seconds(time)?),
             ["settings"] => Self::Settings,
-            ["ranges", track] => Self::Ranges(whole(track)?, lengths.places),
-            ["common"] => Self::Common(lengths.places),
+            ["ranges", track] => Self::Ranges(natural(track)?, length),
+            ["common"] => Self::Common(length),
             ["segment", id, track, timescale, duration, size, flags, segment] => Self::Segment(
                 SegmentTrack {
                     id: whole(id)?,
@@ -115,7 +110,7 @@ impl Call {
                     flags: whole(flags)?,
                 },
                 bytes(segment)?,
-                lengths.places,
+                length,
             ),
             ["state"] => Self::State,
             ["buffer", "1"] => Self::Buffer(0),
@@ -128,32 +123,42 @@ impl Call {
     }
 }
 
-/// Takes the words `name=K` off the end.
-fn lengths(words: &mut Vec<&str>) -> Option<Lengths> {
-    let mut lengths = Lengths {
-        fates: None,
-        places: 4096,
+/// The words of a line.
+fn words(line: &str) -> Option<Vec<&str>> {
+    (line.len() <= LONGEST_LINE).then(|| line.split(' ').collect())
+}
+
+/// The length of the list that a call is lent, whose word is taken off the end if it is there; 0 for
+/// a call that is lent none.
+fn lent(words: &mut Vec<&str>) -> Option<usize> {
+    let row = LENT.iter().find(|(call, ..)| words.first() == Some(call));
+    let Some((_, name, default)) = row else {
+        return Some(0);
     };
-    while let Some((name, count)) = words.last().and_then(|word| word.split_once('=')) {
-        let count = whole(count).filter(|&count| count <= LONGEST_LIST)?;
-        match name {
-            "fates" => lengths.fates = Some(count),
-            "places" => lengths.places = count,
-            "places2" | "buffer" => {} // lent to calls that are not built
-            _ => return None,
-        }
-        words.pop();
+    let said = words.last().and_then(|word| word.split_once('='));
+    let Some((_, count)) = said.filter(|(said, _)| said == name) else {
+        return Some(*default);
+    };
+    words.pop();
+    whole(count).filter(|&count| count <= LONGEST_LIST)
+}
+
+/// How many frames a batch has and how long its fate list is, by its first line.
+pub(crate) fn batch(line: &str) -> Option<(usize, usize)> {
+    let mut words = words(line)?;
+    let length = lent(&mut words)?;
+    match *words {
+        [BATCH, count] => Some((natural(count)? as usize, length)),
+        _ => None,
     }
-    Some(lengths)
 }
 
 /// A frame of a batch by its line.
-fn frame(line: &str) -> Option<Offered> {
-    let words: Vec<&str> = line.split(' ').collect();
-    let ["frame", ref frame @ ..] = *words else {
-        return None;
-    };
-    offered(frame)
+pub(crate) fn frame(line: &str) -> Option<Offered> {
+    match *words(line)? {
+        ["frame", ref frame @ ..] => offered(frame),
+        _ => None,
+    }
 }
 
 /// A frame as offered, by its words.
@@ -162,7 +167,7 @@ fn offered(words: &[&str]) -> Option<Offered> {
         return None;
     };
     Some(Offered {
-        track: whole(track)?,
+        track: natural(track)?,
         pts: whole(pts)?,
         dts: whole(dts)?,
         duration: whole(duration)?,
@@ -170,106 +175,35 @@ fn offered(words: &[&str]) -> Option<Offered> {
     })
 }
 
-/// A whole number in decimal.
-pub(crate) fn whole<N: FromStr>(word: &str) -> Option<N> {
-    let digits = word.strip_prefix('-').unwrap_or(word);
-    if !digits.bytes().all(|digit| digit.is_ascii_digit()) {
-        return None;
-    }
-    word.parse().ok()
-}
-
-/// `1` or `0`.
-pub(crate) fn flag(word: &str) -> Option<bool> {
-    match word {
-        "1" => Some(true),
-        "0" => Some(false),
-        _ => None,
-    }
-}
-
-/// A mode by its name.
-pub(crate) fn mode(word: &str) -> Option<Mode> {
-    match word {
-        "segments" => Some(Mode::Segments),
-        "sequence" => Some(Mode::Sequence),
-        _ => None,
-    }
-}
-
-/// A double: its bits, one of the words for what is not finite, or a plain decimal.
-pub(crate) fn seconds(word: &str) -> Option<f64> {
-    if let Some(digits) = word.strip_prefix("0x") {
-        let hexadecimal = digits.len() == 16 && digits.bytes().all(|d| d.is_ascii_hexdigit());
-        return hexadecimal
-            .then(|| u64::from_str_radix(digits, 16).ok())?
-            .map(f64::from_bits);
-    }
-    match word {
-        "inf" => Some(f64::INFINITY),
-        "-inf" => Some(f64::NEG_INFINITY),
-        "nan" => Some(f64::NAN),
-        _ => {
-            let digits = word.strip_prefix('-').unwrap_or(word);
-            let plain = digits.bytes().all(|d| d.is_ascii_digit() || d == b'.');
-            plain.then(|| word.parse().ok())?
-        }
-    }
-}
-
-/// Bytes as an even number of lower-case hexadecimal digits, or `-` for none.
-fn bytes(word: &str) -> Option<Vec<u8>> {
-    if word == "-" {
-        return Some(Vec::new());
-    }
-    let (pairs, rest) = word.as_bytes().as_chunks();
-    if word.is_empty() || !rest.is_empty() {
-        return None;
-    }
-    let byte = |&[high, low]: &[u8; 2]| Some(16 * digit(high)? + digit(low)?);
-    pairs.iter().map(byte).collect()
-}
-
-/// What a lower-case hexadecimal digit stands for.
-fn digit(digit: u8) -> Option<u8> {
-    match digit {
-        b'0'..=b'9' => Some(digit - b'0'),
-        b'a'..=b'f' => Some(digit - b'a' + 10),
-        _ => None,
-    }
-}
-
 #[cfg(test)]
 mod tests {
     use super::*;
 
     #[test]
-    fn doubles_in_every_form() {
-        assert_eq!(seconds("0x3ff0000000000000"), Some(1.0));
-        assert_eq!(seconds("-inf"), Some(f64::NEG_INFINITY));
-        assert!(seconds("nan").is_some_and(f64::is_nan));
-        assert_eq!(seconds("0.00015"), Some(0.00015));
-        assert_eq!(seconds("-1000000"), Some(-1_000_000.0));
+    fn the_length_of_its_own_list() {
+        assert_eq!(Call::read("common places=7"), Some(Call::Common(7)));
+        assert_eq!(Call::read("common"), Some(Call::Common(4096)));
+        assert_eq!(Call::read("common places=4096"), Some(Call::Common(4096)));
         for bad in [
-            "",
-            "-",
-            ".",
-            "1e3",
-            "+1",
-            "0x3ff",
-            "infinity",
-            "0x+ff0000000000000",
+            "common place=7",
+            "common fates=7",
+            "common places=4097",
+            "common places=",
+            "common places=7 places=7",
+            "common places=7 fates=7",
+            "abort fates=7",
+            "create places=7",
         ] {
-            assert_eq!(seconds(bad), None, "{bad}");
+            assert_eq!(Call::read(bad), None, "{bad}");
         }
     }
 
     #[test]
-    fn lengths_in_any_order() {
-        assert_eq!(Call::read("common places=7 fates=3"), Some(Call::Common(7)));
-        assert_eq!(Call::read("common fates=3 places=7"), Some(Call::Common(7)));
-        assert_eq!(Call::read("common"), Some(Call::Common(4096)));
-        assert_eq!(Call::read("common place=7"), None);
+    fn a_line_that_is_too_long() {
+        let create = |length: usize| format!("create {}1", "0".repeat(length - "create 1".len()));
+        let longest = Call::read(&create(LONGEST_LINE));
+        assert_eq!(longest, Some(Call::Create(vec![1])));
+        assert_eq!(Call::read(&create(LONGEST_LINE + 1)), None);
     }
 
     #[test]

@@ -2,7 +2,7 @@
 
 use second::{Maybe, Mode, FRAME_PLACES, TRACK_PLACES};
 
-use crate::call::{flag, mode, seconds, whole};
+use crate::words::{flag, mode, seconds, whole};
 
 /// A field of the state and what is written into it. Places count from 0.
 #[derive(Clone, Copy, Debug, PartialEq)]

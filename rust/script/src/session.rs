@@ -4,8 +4,8 @@ use second::{Reading, WindowEnd};
 
 use crate::batch::{row_of, Batch};
 use crate::call::Call;
-use crate::calls::is_silent;
 use crate::lent::Lent;
+use crate::lines::is_silent;
 use crate::place::Place;
 use crate::print::{bits, state_line};
 use crate::subject::{Declined, Subject};
@@ -181,6 +181,7 @@ fn row(row: &impl Place<i64, 6>) -> String {
 mod tests {
     use super::*;
     use crate::calls::calls;
+    use crate::lines::lines;
     use crate::proved::Proved;
     use crate::subject::Second;
 
@@ -190,7 +191,7 @@ mod tests {
 
     fn answers_of<S: Subject>(subject: &mut S, script: &str) -> Vec<String> {
         let mut session = Session::new(subject);
-        let calls = calls(script.lines());
+        let calls = calls(lines(script));
         calls.filter_map(|call| session.answer(&call)).collect()
     }
 
@@ -264,6 +265,14 @@ mod tests {
         let wanted = [
             "ok", "unknown", "ok", "unknown", "unknown", "unknown", "unknown",
         ];
+        assert_eq!(answers(script), wanted);
+    }
+
+    #[test]
+    fn marks_of_an_editor() {
+        let script = "\u{feff}create 0\r\n\r\nbatch 1\r\n\r\nframe 1 0 0 1 1\r\nabort\r\r\n\
+                      batch 1\nframe 1 0 0 1 1\r\r\nabort\r";
+        let wanted = ["ok", "ok batch 1 0 fates", "unknown", "unknown", "ok"];
         assert_eq!(answers(script), wanted);
     }
 

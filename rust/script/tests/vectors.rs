@@ -6,7 +6,7 @@
 use std::path::{Path, PathBuf};
 use std::{env, fs};
 
-use script::{calls, Proved, Second, Session, Subject};
+use script::{calls, lines, Proved, Second, Session, Subject};
 
 /// The scripts of the folder, in order of name.
 fn scripts() -> Vec<PathBuf> {
@@ -32,7 +32,7 @@ fn compare<S: Subject>(path: &Path, subject: &mut S) -> usize {
     let mut wanted = wanted.lines();
     let mut session = Session::new(subject);
     let mut count = 0;
-    for call in calls(script.lines()) {
+    for call in calls(lines(&script)) {
         if let Some(answer) = session.answer(&call) {
             count += 1;
             let wanted = wanted.next();

@@ -4,26 +4,11 @@ use std::ops::Range;
 
 use crate::numbers::{frame_duration, offered_time, quotient, result_time};
 use crate::refusal::{Cause, Fate, Refusal};
-use crate::settings::Seconds;
-use crate::state::{Frame, Head, Maybe, Mode, State, Track, FRAME_PLACES};
+use crate::seconds::Seconds;
+use crate::state::{Frame, Head, Maybe, Mode, Offered, State, Track, FRAME_PLACES};
 use crate::store::{check_fates, take_out, Latest};
 use crate::trace::{BatchBranch, Branch, Trace};
 use crate::well_formed::check_traced;
-
-/// A frame as it is offered.
-#[derive(Clone, Copy, Debug, PartialEq, Eq)]
-pub struct Offered {
-    /// The track, from 1.
-    pub track: u32,
-    /// Presentation time, before the offset.
-    pub pts: i64,
-    /// Decode time, before the offset.
-    pub dts: i64,
-    /// Duration.
-    pub duration: u32,
-    /// Whether it is a random access point.
-    pub flagged: bool,
-}
 
 /// Appends a frame; gives the count of fate lines.
 pub fn append(state: &mut State, offered: &Offered, fates: &mut [Fate]) -> Result<usize, Refusal> {

@@ -1,10 +1,10 @@
 //! Document 02, No. 2, "A whole segment's frames in one call": frames appended one by one, in list
 //! order, until one is refused.
 
-use crate::append::{append_tested, Offered};
+use crate::append::append_tested;
 use crate::refusal::{Fate, Refusal};
 use crate::segment::Row;
-use crate::state::{State, FRAME_PLACES};
+use crate::state::{Offered, State, FRAME_PLACES};
 use crate::store::{check_fates, Latest};
 use crate::trace::{BatchBranch, Trace};
 use crate::well_formed::check_traced;

@@ -12,11 +12,13 @@
 
 mod append;
 mod batch;
+mod fault;
 mod named;
 mod numbers;
 mod ranges;
 mod refusal;
 mod remove;
+mod seconds;
 mod segment;
 mod settings;
 mod state;
@@ -24,17 +26,20 @@ mod store;
 mod trace;
 mod well_formed;
 
-pub use append::{append, append_traced, Offered};
+pub use append::{append, append_traced};
 pub use batch::{append_batch, append_batch_traced, Batch, BATCH_FRAMES, BATCH_LINES};
+pub use fault::Fault;
 pub use numbers::{micros, quotient, LONGEST_DURATION, OFFERED_LIMIT, RESULT_LIMIT, SECONDS_LIMIT};
 pub use ranges::{common_ranges, track_ranges, Stretch};
 pub use refusal::{Cause, Fate, Refusal};
 pub use remove::{abort, remove, remove_traced};
+pub use seconds::{End, Seconds, Settings};
 pub use segment::{list_segment, list_segment_traced, Row, SegmentTrack, FINEST_TIMESCALE};
 pub use settings::{
-    read_settings, set_mode, set_offset, set_window_end, set_window_start, End, Reading, Seconds,
-    Settings, WindowEnd,
+    read_settings, set_mode, set_offset, set_window_end, set_window_start, Reading, WindowEnd,
 };
-pub use state::{create, Frame, Head, Maybe, Mode, State, Track, FRAME_PLACES, TRACK_PLACES};
+pub use state::{
+    create, Frame, Head, Maybe, Mode, Offered, State, Track, FRAME_PLACES, TRACK_PLACES,
+};
 pub use trace::{BatchBranch, Branch, Framing, Parent, SegmentBranch, Trace};
-pub use well_formed::{well_formed, Fault};
+pub use well_formed::well_formed;

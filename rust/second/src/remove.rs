@@ -1,7 +1,7 @@
 //! "Removing, aborting, setting": the removal of a stretch of time, and the abort.
 
 use crate::refusal::{Cause, Fate, Refusal};
-use crate::settings::{End, Seconds};
+use crate::seconds::{End, Seconds};
 use crate::state::{Frame, Maybe, Mode, State, FRAME_PLACES};
 use crate::store::{check_fates, take_out};
 use crate::trace::{Branch, Trace};

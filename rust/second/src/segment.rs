@@ -7,35 +7,14 @@
 mod boxes;
 mod fragment;
 mod header;
+mod rows;
 mod run;
 mod samples;
 
 use crate::refusal::Refusal;
 use crate::trace::{SegmentBranch, Trace};
 use fragment::{track_fragments, TrackFragment};
-
-/// Timescales run from 1 to this.
-pub const FINEST_TIMESCALE: u32 = 1_000_000;
-
-/// The track whose frames are listed, and what holds where the segment does not say it.
-#[derive(Clone, Copy, Debug, PartialEq, Eq)]
-pub struct SegmentTrack {
-    /// The track's ID in the segment.
-    pub id: u32,
-    /// The track number that its frames shall carry, which is not judged.
-    pub track: u32,
-    /// Its media time units in a second.
-    pub timescale: u32,
-    /// The default duration, in such units.
-    pub duration: u32,
-    /// The default size.
-    pub size: u32,
-    /// The default flags.
-    pub flags: u32,
-}
-
-/// A listed frame: track, presentation time, decode time, duration, 1 if flagged or else 0, size.
-pub type Row = [i64; 6];
+pub use rows::{Row, SegmentTrack, FINEST_TIMESCALE};
 
 /// Lists a track's frames in file order; gives their count.
 pub fn list_segment(of: SegmentTrack, segment: &[u8], list: &mut [Row]) -> Result<usize, Refusal> {
@@ -81,10 +60,4 @@ fn places_for<'l>(fragments: &[TrackFragment], list: &'l mut [Row]) -> Option<&'
     let runs = fragments.iter().flat_map(|fragment| &fragment.runs);
     let count: u128 = runs.map(|run| u128::from(run.count)).sum();
     list.get_mut(..usize::try_from(count).ok()?)
-}
-
-/// Refusal 12, telling what is malformed.
-fn malformed<T: Trace>(branch: SegmentBranch, trace: &mut T) -> Refusal {
-    trace.segment(branch);
-    Refusal::Malformed
 }

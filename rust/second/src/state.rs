@@ -2,9 +2,8 @@
 
 use std::ops::RangeInclusive;
 
-use crate::append::Offered;
 use crate::refusal::Refusal;
-use crate::settings::Settings;
+use crate::seconds::Settings;
 use crate::trace::{Branch, Trace};
 
 /// The store's places over all tracks, and the lines that a fate list needs.
@@ -52,6 +51,21 @@ pub enum Mode {
     Segments,
     /// Each group of frames is moved to follow the one before.
     Sequence,
+}
+
+/// A frame as it is offered.
+#[derive(Clone, Copy, Debug, PartialEq, Eq)]
+pub struct Offered {
+    /// The track, from 1.
+    pub track: u32,
+    /// Presentation time, before the offset.
+    pub pts: i64,
+    /// Decode time, before the offset.
+    pub dts: i64,
+    /// Duration.
+    pub duration: u32,
+    /// Whether it is a random access point.
+    pub flagged: bool,
 }
 
 /// A stored frame, its times after the offset. All zeros in a place that holds none.

@@ -1,8 +1,8 @@
 //! The branches of append, batch, remove and the reader of segments, told to whoever wants to count
 //! them.
 
+use crate::fault::Fault;
 use crate::named::named;
-use crate::well_formed::Fault;
 
 /// Hears which branches a call takes. The trace `()` hears nothing and costs nothing.
 pub trait Trace {

@@ -12,7 +12,7 @@ use Rattle.buffer_state.specs.declared.Track.{Track}
 use Rattle.buffer_state.specs.Append.{Pass, overlapped, offerable}
 use Rattle.buffer_state.specs.Buffer.{Buffer}
 use Rattle.buffer_state.specs.Lent.{headOf}
-use Rattle.buffer_state.specs.Limits.{resultTime, lastNumber}
+use Rattle.buffer_state.specs.Limits.{resultTime, lastNumber, places}
 use Rattle.buffer_laws.proofs.AppendLaws.{last-from, last-pass-good}
 use Rattle.buffer_laws.proofs.GoodLaws.{good-facts}
 use Rattle.buffer_laws.proofs.LayoutLaws.{few-tracks}
@@ -123,7 +123,7 @@ returns-6 c = λ b e ok.
       free = λ x q.
           ap (λ (y : Track). overlapped y g x) (sym (t .track-of .ensures b e)) ∙ sym (p .span-of .ensures x)
           ∙ unspanned (g .track) span (a .bound .micros) free x q;
-      room = omega (arith, ltb-true (a .h .nframes) 1024 (and-right (i .is-free .result) _ ok), ap (λ (k : Head). k .nframes) e);
+      room = omega (arith, ltb-true (a .h .nframes) places (and-right (i .is-free .result) _ ok), ap (λ (k : Head). k .nframes) e);
     }
 
 pub follows-spec : {M : Type 1} → statement M

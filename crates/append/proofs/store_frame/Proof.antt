@@ -119,7 +119,7 @@ all-stay c =
     (ap kept (sym (marked p)) ∙ all .0, ap linesOf (sym (marked p)) ∙ all .1)
 
 -- else a place is freed
-left-few : (c : tie.Else1) → length (kept (marks (spanned (c .before)))) < 1024
+left-few : (c : tie.Else1) → length (kept (marks (spanned (c .before)))) < places
 left-few c =
     let m = c .before in
     let p = spanned m in
@@ -173,7 +173,7 @@ returns-2 c =
     let q : Pass = storing s in
     let all = all-stay i in
     let n : length (kept (overlapMarks q)) ≡ a .h .nframes = ap length (all .0) ∙ count s in
-    let room : length (stored q .after .frames) ≤ 1024 = omega (arith, stored-count q, n, e .if2 .left) in
+    let room : length (stored q .after .frames) ≤ places = omega (arith, stored-count q, n, e .if2 .left) in
     let res = store-result (pass s) (s .pre .1) room in
     let none = sym (all .1) in
     let old = sym (all .0) in
@@ -206,7 +206,7 @@ found c = c .before .before .before .before .before .before
 left : (c : tie.After-put-in) → let s = off (spanned (found c .before)) .before in c .put-in .result .left ≡ length (kept (overlapMarks (storing s)))
 left c = c .put-in .ensures .1 .1 .1 .0 ∙ ap (λ (ms : List Marked). length (kept ms)) (marked (spanned (found c .before)))
 
-room : (c : tie.After-put-in) → c .put-in .result .left < 1024
+room : (c : tie.After-put-in) → c .put-in .result .left < places
 room c = omega (arith, c .put-in .ensures .1 .1 .1 .0, left-few (found c))
 
 step-nine-requires : tie.Need-step-nine-requires
@@ -234,7 +234,7 @@ returns-3 c =
     let s = k .before in
     let a = s .args in
     let q : Pass = storing s in
-    let all : length (stored q .after .frames) ≤ 1024 = omega (arith, stored-count q, left u, room u) in
+    let all : length (stored q .after .frames) ≤ places = omega (arith, stored-count q, left u, room u) in
     let res = store-result (pass s) (s .pre .1) all in
     let nine = c .step-nine .ensures (q .buffer) (kept (overlapMarks q)) (headed k) (left u) in
     let told = u .put-in .ensures .1 .1 .1 .1 ∙ ap (λ (ms : List Marked). length (linesOf ms)) (marked p) in

@@ -7,7 +7,7 @@ use native.Mathlib.Omega.{arith}
 use borrow.Author.Needs.{needs}
 use denote.Enum.Declared.{tagOf}
 use lib.IntN.{ℤ}
-use lib.ListN.{length, drop, length-map}
+use lib.ListN.{length, drop, length-map, drop-of-length-le}
 use Rattle.buffer_state.proofs.Count.{the-type}
 use Rattle.buffer_state.specs.declared.Count as Counts
 use Rattle.buffer_state.specs.declared.Count.the-variants as Count
@@ -15,7 +15,7 @@ use Rattle.buffer_state.specs.declared.Counted.{Counted}
 use Rattle.buffer_state.specs.declared.Offered.{Offered}
 use Rattle.buffer_state.specs.Answers.{counted, appendResult}
 use Rattle.buffer_state.specs.Append.{Outcome, stepNine, append}
-use Rattle.buffer_state.specs.Batch.{offeredIn}
+use Rattle.buffer_state.specs.Batch.{offeredIn, mostFrames}
 use Rattle.buffer_state.specs.Layout.{bufferOf}
 use Rattle.buffer_state.specs.Lent.{stateAt}
 use Rattle.buffer_state.specs.Limits.{places}
@@ -27,7 +27,7 @@ use Rattle.append.proofs.StoredLaws.{held-head, held-count, held-store}
 use Rattle.batch.specs.Each.{eachAt, stopBy, endedWith, Going}
 use Rattle.heads.specs.Heads.{HasTrack}
 use Rattle.batch.proofs.BoundLaws.{bounds-own, set-raised, set-high}
-use Rattle.batch.proofs.EachLaws.{rows-next, rows-end, isDone, going-first, room-left, result-held, ends, stops, lines-few, track-kept, goes, goes-quietly}
+use Rattle.batch.proofs.EachLaws.{rows-next, isDone, going-first, room-left, result-held, ends, stops, lines-few, track-kept, goes, goes-quietly}
 use Rattle.batch.proofs.append_each.Statement.{statement}
 use Rattle.batch.proofs.append_each.Tie as tie
 
@@ -74,10 +74,10 @@ abbrev going : (d : tie.At-loop Inv-loop μ-loop)
     Going (bufferOf (stateAt (a .start) (a .times .now) (a .tags .now))) (map offeredIn (a .frames .now)) (a .fates .now) (l .i) (l .h) (l .times) (l .tags) (l .bounds) (l .at) (l .fates)
 going d = d .loop .inv .4
 
-few : (d : tie.At-loop Inv-loop μ-loop) → let a = start d .args in length (map offeredIn (a .frames .now)) ≤ 64
+few : (d : tie.At-loop Inv-loop μ-loop) → let a = start d .args in length (map offeredIn (a .frames .now)) ≤ mostFrames
 few d = let s = start d in omega (arith, length-map (s .args .frames .now) offeredIn, s .pre .1)
 
-stored : (d : tie.At-loop Inv-loop μ-loop) → let a = start d .args in length (bufferOf (stateAt (a .start) (a .times .now) (a .tags .now)) .frames) ≤ 1024
+stored : (d : tie.At-loop Inv-loop μ-loop) → let a = start d .args in length (bufferOf (stateAt (a .start) (a .times .now) (a .tags .now)) .frames) ≤ places
 stored d =
     let s = start d in
     let a = s .args in
@@ -391,7 +391,7 @@ returns-2 c =
     let d = l .before in
     let a = start d .args in
     let k = d .loop in
-    ends _ _ (a .fates .now) (k .i) (k .h) (k .times) (k .tags) (k .bounds) (k .at) (k .fates) (going d) (rows-end (a .frames .now) (k .i) (l .loop-test .left)) (a .start) (c .ended2 .ensures)
+    ends _ _ (a .fates .now) (k .i) (k .h) (k .times) (k .tags) (k .bounds) (k .at) (k .fates) (going d) (drop-of-length-le (map offeredIn (a .frames .now)) {i = k .i} (omega (arith, length-map (a .frames .now) offeredIn, l .loop-test .left))) (a .start) (c .ended2 .ensures)
 
 pub append-each-spec : {M : Type 1} → statement M
 append-each-spec =

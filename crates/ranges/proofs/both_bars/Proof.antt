@@ -11,15 +11,16 @@ use Rattle.ranges.specs.Bars.{rangeOf, Shows}
 use Rattle.ranges.specs.Read.{rangesIn}
 use Rattle.ranges.proofs.MeetLaws.{rest, Meeting, one-at-most, left-more, right-more, left-over, right-over}
 use borrow.Author.Needs.{needs}
+use Rattle.buffer_state.specs.Limits.{places}
 use Rattle.ranges.proofs.both_bars.Statement.{statement}
 use Rattle.ranges.proofs.both_bars.Tie as tie
 
 abbrev Inv-loop : tie.InvT-loop
 Inv-loop spans₀ m more n k₀ i₀ j₀ spans k i j =
-    (i ≤ 1024) × (j ≤ n) × (k + 1024 ≤ i + m + j) × Meeting spans k i more n j (common (rest (1024 - m) spans₀) (rangesIn (take n more)))
+    (i ≤ places) × (j ≤ n) × (k + places ≤ i + m + j) × Meeting spans k i more n j (common (rest (places - m) spans₀) (rangesIn (take n more)))
 
 abbrev μ-loop : tie.MeasureT-loop
-μ-loop spans₀ m more n k₀ i₀ j₀ spans k i j = (1024 - i) + (n - j)
+μ-loop spans₀ m more n k₀ i₀ j₀ spans k i j = (places - i) + (n - j)
 
 abbrev start : tie.At-loop Inv-loop μ-loop → tie.Start Inv-loop μ-loop
 start d = d .before .before .before .before
@@ -35,7 +36,7 @@ room t = let d = t .before .before in omega (arith, right-left t, d .loop .inv .
 abbrev Met : tie.At-loop Inv-loop μ-loop → List (List ℤ) → Type 0
 Met d l = Shows (d .loop .spans) (d .loop .k) (common (rangesIn l) (rangesIn (take (start d .args .n) (start d .args .more .now))))
 
-met : (d : tie.At-loop Inv-loop μ-loop) → Met d (drop (1024 - start d .args .m) (d .before .before .move-to-end .last .0))
+met : (d : tie.At-loop Inv-loop μ-loop) → Met d (drop (places - start d .args .m) (d .before .before .move-to-end .last .0))
     → Met d (take (start d .args .m) (start d .args .spans .now))
 met d = subst (Met d) (d .before .before .move-to-end .ensures)
 

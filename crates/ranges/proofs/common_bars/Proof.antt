@@ -6,6 +6,7 @@ use native.Mathlib.Omega.{arith}
 use lib.ListN.{length}
 use Rattle.laws.proofs.BoolLaws.{and-right}
 use Rattle.buffer_state.specs.declared.Frame.{Frame}
+use Rattle.buffer_state.specs.Limits.{places}
 use Rattle.buffer_state.specs.Ranges.{rising, common, commonRangesOf}
 use Rattle.buffer_laws.proofs.TestLaws.{all-weaker}
 use Rattle.buffer_laws.proofs.RangeLaws.{lasts, ranges-rise}
@@ -21,7 +22,7 @@ use Rattle.ranges.proofs.common_bars.Tie as tie
 
 abbrev Inv-loop : tie.InvT-loop
 Inv-loop times tags n tracks spans₀ first more₀ count₀ t₀ spans more count t =
-    (1 ≤ t) × (t ≤ tracks) × (length spans ≡ 1024) × (length more ≡ 1024)
+    (1 ≤ t) × (t ≤ tracks) × (length spans ≡ places) × (length more ≡ places)
     × Shows spans count (commonRangesOf t (stored times tags n)) × (count ≤ upTo t (stored times tags n))
 
 abbrev μ-loop : tie.MeasureT-loop

@@ -8,12 +8,13 @@ use lib.ListN.{length, take, drop, getD, set, length-set, drop-of-length-le}
 use lib.Seq.{slice, take-take, take-set-le, getD-take, getD-set-same, drop-cons, drop-set-lt, lt-length-set}
 use Rattle.ranges.proofs.BarLaws.{next, done}
 use borrow.Author.Needs.{needs}
+use Rattle.buffer_state.specs.Limits.{places}
 use Rattle.ranges.proofs.move_to_end.Statement.{statement}
 use Rattle.ranges.proofs.move_to_end.Tie as tie
 
 abbrev Inv-loop : tie.InvT-loop
 Inv-loop rows₀ n left₀ to₀ rows left to =
-    (left ≤ n) × (to + n ≡ 1024 + left) × (length rows ≡ 1024) × (take left rows ≡ take left rows₀) × (drop to rows ≡ slice left n rows₀)
+    (left ≤ n) × (to + n ≡ places + left) × (length rows ≡ places) × (take left rows ≡ take left rows₀) × (drop to rows ≡ slice left n rows₀)
 
 abbrev μ-loop : tie.MeasureT-loop
 μ-loop rows₀ n left₀ to₀ rows left to = left
@@ -40,7 +41,7 @@ module _ {A : Type 0} (l t : List A) (n q p : ℕ) (z : A) (same : take (q + 1) 
 loop-holds : tie.Need-loop-holds Inv-loop μ-loop
 loop-holds c =
     let a = c .args in
-    (search needs, search needs, c .pre .1, refl, drop-of-length-le (a .rows .now) {i = 1024} (omega (arith, c .pre .1)) ∙ sym (done (a .rows .now) (a .n) (a .n) (omega arith)))
+    (search needs, search needs, c .pre .1, refl, drop-of-length-le (a .rows .now) {i = places} (omega (arith, c .pre .1)) ∙ sym (done (a .rows .now) (a .n) (a .n) (omega arith)))
 
 sub-left : tie.Need-sub-left Inv-loop μ-loop
 sub-left c = search needs
@@ -91,7 +92,7 @@ returns c =
     let d = c .before in
     let s = d .before in
     let none : d .loop .left ≡ 0 = omega (arith, c .loop-test .left) in
-    let at : 1024 - s .args .n ≡ d .loop .to = omega (arith, d .loop .inv .1, none) in
+    let at : places - s .args .n ≡ d .loop .to = omega (arith, d .loop .inv .1, none) in
     ap (λ (m : ℕ). drop m (d .loop .rows)) at ∙ d .loop .inv .4 ∙ ap (λ (m : ℕ). slice m (s .args .n) (s .args .rows .now)) none
 
 pub move-to-end-spec : {M : Type 1} → statement M

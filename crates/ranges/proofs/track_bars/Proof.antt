@@ -7,6 +7,7 @@ use lib.ListN.{length, take}
 use Rattle.sorting.specs.Sorting.{occurrences}
 use Rattle.buffer_state.specs.declared.Frame.{Frame}
 use Rattle.buffer_state.specs.Lent.{framesOf}
+use Rattle.buffer_state.specs.Limits.{places}
 use Rattle.ranges.specs.Bars.{stored}
 use Rattle.ranges.specs.Sweep.{trackKeys}
 use Rattle.ranges.proofs.StoredLaws.{stored-full, stored-length}
@@ -27,12 +28,12 @@ held s = stored (s .args .times .now) (s .args .tags .now) (s .args .n)
 abbrev begun : tie.After-track-keys → tie.Start
 begun k = k .before .before .before .before .before .before .before .before
 
-few : (k : tie.After-track-keys) → k .track-keys .result ≤ 1024
+few : (k : tie.After-track-keys) → k .track-keys .result ≤ places
 few k =
     let s = begun k in
     omega (arith, k .track-keys .ensures .count, s .pre .0 .few, keys-few (s .args .track) 0 (held s), stored-length (s .pre .0))
 
-size : (k : tie.After-track-keys) → length (k .track-keys .last .1 .1 .1 .1 .0) ≡ 1024
+size : (k : tie.After-track-keys) → length (k .track-keys .last .1 .1 .1 .1 .0) ≡ places
 size k = k .track-keys .kept .1 .1 .1 .1 .0
 
 -- the sorted keys are the track's

@@ -7,6 +7,7 @@ use lib.ListN.{take}
 use lib.Seq.{slice}
 use Rattle.buffer_state.specs.declared.Frame.{Frame}
 use Rattle.buffer_state.specs.Lent.{framesOf}
+use Rattle.buffer_state.specs.Limits.{places}
 use Rattle.ranges.specs.Bars.{rangeOf}
 use Rattle.ranges.specs.Sweep.{stretches}
 use Rattle.ranges.proofs.BarLaws.{done}
@@ -30,7 +31,7 @@ start d = d .before .before .before .before .before .before .before
 abbrev frames : tie.Start Inv-loop μ-loop → List Frame
 frames s = framesOf (s .args .times .now) (s .args .tags .now)
 
-room : (d : tie.At-loop Inv-loop μ-loop) → d .loop .k < 1024
+room : (d : tie.At-loop Inv-loop μ-loop) → d .loop .k < places
 room d = omega (arith, d .loop .inv .0, d .loop .inv .1, start d .pre .1)
 
 -- the next stretch is that of the frame that the next key names

@@ -8,6 +8,7 @@ use lib.ListN.{length, getD}
 use Rattle.laws.proofs.BoolLaws.{clash}
 use Rattle.buffer_state.specs.declared.Frame.{Frame}
 use Rattle.buffer_state.specs.Layout.{zeroFrame}
+use Rattle.buffer_state.specs.Limits.{places}
 use Rattle.ranges.specs.Bars.{rangeOf, stored}
 use Rattle.ranges.proofs.StoredLaws.{stored-length, stored-at, stored-timely}
 use Rattle.ranges.proofs.OwnLaws.{own-end, Passing, pass-begins, pass-opens, pass-grows, pass-touches, pass-left, pass-ends}
@@ -30,7 +31,7 @@ start d = d .before .before .before
 abbrev held : tie.At-loop Inv-loop μ-loop → List Frame
 held d = let a = start d .args in stored (a .times .now) (a .tags .now) (a .n)
 
-room : (d : tie.At-loop Inv-loop μ-loop) → d .loop .k < 1024
+room : (d : tie.At-loop Inv-loop μ-loop) → d .loop .k < places
 room d = omega (arith, d .loop .inv .0, d .loop .inv .1, start d .pre .0 .few)
 
 inside : (d : tie.At-loop Inv-loop μ-loop) → d .loop .i < start d .args .n → d .loop .i < length (held d)

@@ -12,6 +12,7 @@ use Rattle.seconds.specs.Seconds.{at}
 use Rattle.buffer_state.specs.declared.Frame.{Frame}
 use Rattle.buffer_state.specs.Layout.{zeroFrame}
 use Rattle.buffer_state.specs.Lent.{framesOf}
+use Rattle.buffer_state.specs.Limits.{places}
 use Rattle.buffer_state.specs.Remove.{beforeBound}
 use Rattle.taking.specs.declared.Span.{Span}
 use Rattle.taking.specs.Taking.{noSpan}
@@ -24,7 +25,7 @@ use Rattle.remove.proofs.far_spans.Tie as tie
 
 abbrev Inv-loop : tie.InvT-loop
 Inv-loop end times tags spans₀ i₀ spans i =
-    (i ≤ i₀) × (i₀ ≤ 1024) × (length spans ≡ 5) × FarSpans (getD spans₀ 0 noSpan .start) (boundIn end) (drop i (take i₀ (framesOf times tags))) spans
+    (i ≤ i₀) × (i₀ ≤ places) × (length spans ≡ 5) × FarSpans (getD spans₀ 0 noSpan .start) (boundIn end) (drop i (take i₀ (framesOf times tags))) spans
 
 abbrev μ-loop : tie.MeasureT-loop
 μ-loop end times tags spans₀ i₀ spans i = i

@@ -1,14 +1,15 @@
 -- Each append is made where the one before ends; the place in the loop bounds the times.
 use Prim.Native.Nat.{_-_, _≤_}
 use borrow.Author.Needs.{needs}
+use Rattle.buffer_state.specs.Limits.{places}
 use Rattle.soundings.proofs.full.Statement.{statement}
 use Rattle.soundings.proofs.full.Tie as tie
 
 abbrev Inv-loop : tie.InvT-loop
-Inv-loop times₀ tags₀ h₀ i₀ times tags h i = i ≤ 1024
+Inv-loop times₀ tags₀ h₀ i₀ times tags h i = i ≤ places
 
 abbrev μ-loop : tie.MeasureT-loop
-μ-loop times₀ tags₀ h₀ i₀ times tags h i = 1024 - i
+μ-loop times₀ tags₀ h₀ i₀ times tags h i = places - i
 
 fresh-requires : tie.Need-fresh-requires Inv-loop μ-loop
 fresh-requires c κs = search needs

@@ -5,10 +5,10 @@ use Rattle.text.proofs.fates.Statement.{statement}
 use Rattle.text.proofs.fates.Tie as tie
 
 abbrev Inv-loop : tie.InvT-loop
-Inv-loop list n i₀ i = i ≤ n
+Inv-loop list n out₀ i₀ out i = i ≤ n
 
 abbrev μ-loop : tie.MeasureT-loop
-μ-loop list n i₀ i = n - i
+μ-loop list n out₀ i₀ out i = n - i
 
 slice-aggregate-put : tie.Need-slice-aggregate-put Inv-loop μ-loop
 slice-aggregate-put c = search needs

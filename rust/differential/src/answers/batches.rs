@@ -4,7 +4,7 @@ use std::fmt::Write;
 
 use second::{BATCH_FRAMES, BATCH_LINES, FRAME_PLACES};
 
-use super::{batch, fates};
+use crate::told::{batch, fates};
 
 const FRAMES: [&str; 3] = ["none", "1 to 64", "over 64"];
 

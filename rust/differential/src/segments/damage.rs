@@ -1,7 +1,7 @@
 //! Damage to well-made segments: to the tree of their boxes, or to their bytes.
 
+use super::case::Case;
 use super::tree::{self, Content, Node, Told};
-use super::Case;
 use crate::rng::Rng;
 
 /// The boxes that a reader looks for.

@@ -2,8 +2,9 @@
 
 use second::{SegmentTrack, FINEST_TIMESCALE};
 
+use super::case::Case;
 use super::tree::{self, Node, Told};
-use super::Case;
+use super::values::Maker;
 use crate::rng::Rng;
 
 const TIMESCALES: [u32; 16] = [
@@ -43,18 +44,6 @@ const OTHERS: [&[u8; 4]; 12] = [
     b"tfh ",
     b"\0\0\0\0",
 ];
-
-/// Writes one segment.
-pub(super) struct Maker<'r> {
-    pub(super) rng: &'r mut Rng,
-    pub(super) of: SegmentTrack,
-    /// Whether times and durations go to their limits and beyond.
-    pub(super) wild: bool,
-    /// The frames that the runs of the track announce.
-    frames: u64,
-    /// The decode time of the fragment.
-    pub(super) start: u64,
-}
 
 /// A well-made segment and what is asked of it.
 pub(super) fn make(rng: &mut Rng) -> (Case, Vec<Node>) {

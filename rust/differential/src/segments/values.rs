@@ -1,9 +1,21 @@
-//! The numbers that stand in segments: mostly those of a recorder, and in a wild segment those around
-//! the limits.
+//! What a segment is written from: its maker, and the numbers that stand in it, mostly those of a
+//! recorder, and in a wild segment those around the limits.
 
-use second::{FINEST_TIMESCALE, OFFERED_LIMIT};
+use second::{SegmentTrack, FINEST_TIMESCALE, OFFERED_LIMIT};
 
-use super::make::Maker;
+use crate::rng::Rng;
+
+/// Writes one segment.
+pub(super) struct Maker<'r> {
+    pub(super) rng: &'r mut Rng,
+    pub(super) of: SegmentTrack,
+    /// Whether times and durations go to their limits and beyond.
+    pub(super) wild: bool,
+    /// The frames that the runs of the track announce.
+    pub(super) frames: u64,
+    /// The decode time of the fragment.
+    pub(super) start: u64,
+}
 
 impl Maker<'_> {
     /// The media time that is the limit of times.

@@ -1,20 +1,26 @@
-//! Reads one script on standard input, puts it to `second`, and writes the answers.
+//! Reads one script on standard input, puts it to `second`, and writes the answers. At the end it
+//! tells on standard error how many lines could not be read.
 
 #![forbid(unsafe_code)]
 
-use std::io::{self, BufWriter, Write};
+use std::io::{self, BufWriter, Read, Write};
 
-use script::{calls, Second, Session};
+use script::{placed_calls, report, unread, Second, Session};
 
 fn main() -> io::Result<()> {
-    let script = io::read_to_string(io::stdin())?;
+    let mut script = Vec::new();
+    io::stdin().read_to_end(&mut script)?;
+    let script = String::from_utf8_lossy(&script);
     let mut subject: Second = Second::default();
     let mut session = Session::new(&mut subject);
     let mut answers = BufWriter::new(io::stdout().lock());
-    for call in calls(script.lines()) {
-        if let Some(answer) = session.answer(&call) {
+    let mut not_read = Vec::new();
+    for call in placed_calls(&script) {
+        if let Some(answer) = session.answer(&call.text) {
             writeln!(answers, "{answer}")?;
         }
+        not_read.extend(unread(&call));
     }
-    answers.flush()
+    answers.flush()?;
+    io::stderr().write_all(&report(&not_read).unwrap_or_default())
 }

@@ -1,7 +1,7 @@
-//! The framing of boxes, and the fields in a box's body.
+//! The framing of boxes, the fields in a box's body, and refusal 12.
 
 use crate::refusal::Refusal;
-use crate::trace::{Framing, Parent, Trace};
+use crate::trace::{Framing, Parent, SegmentBranch, Trace};
 
 /// The type of a box.
 pub(super) type Kind = [u8; 4];
@@ -110,4 +110,10 @@ impl<'a> Fields<'a> {
         let [high, middle, low] = flags;
         Some((version, u32::from_be_bytes([0, high, middle, low])))
     }
+}
+
+/// Refusal 12, telling what is malformed.
+pub(super) fn malformed<T: Trace>(branch: SegmentBranch, trace: &mut T) -> Refusal {
+    trace.segment(branch);
+    Refusal::Malformed
 }

@@ -1,9 +1,9 @@
 //! The one movie fragment, and what stands in its track fragments. Refusal 12, and no other.
 
-use super::boxes::Boxes;
+use super::boxes::{malformed, Boxes};
 use super::header::{DecodeTimes, Defaults, Header};
+use super::rows::SegmentTrack;
 use super::run::Run;
-use super::{malformed, SegmentTrack};
 use crate::refusal::Refusal;
 use crate::trace::{Parent, SegmentBranch, Trace};
 

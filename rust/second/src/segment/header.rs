@@ -1,7 +1,7 @@
 //! A track fragment's header and its decode time. Refusal 12, and no other.
 
-use super::boxes::Fields;
-use super::{malformed, SegmentTrack};
+use super::boxes::{malformed, Fields};
+use super::rows::SegmentTrack;
 use crate::refusal::Refusal;
 use crate::trace::{SegmentBranch, Trace};
 

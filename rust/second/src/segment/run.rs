@@ -1,7 +1,6 @@
 //! A run of samples. Refusal 12, and no other.
 
-use super::boxes::Fields;
-use super::malformed;
+use super::boxes::{malformed, Fields};
 use crate::refusal::Refusal;
 use crate::trace::{SegmentBranch, Trace};
 

@@ -4,8 +4,8 @@ use std::iter;
 
 use super::fragment::TrackFragment;
 use super::header::Defaults;
+use super::rows::{Row, SegmentTrack, FINEST_TIMESCALE};
 use super::run::Run;
-use super::{Row, SegmentTrack, FINEST_TIMESCALE};
 use crate::numbers::{frame_duration, offered_time, MICROS_PER_SECOND, OFFERED_LIMIT};
 use crate::refusal::Refusal;
 use crate::trace::{SegmentBranch, Trace};

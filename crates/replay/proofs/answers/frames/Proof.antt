@@ -5,10 +5,10 @@ use Rattle.replay.proofs.answers.frames.Statement.{statement}
 use Rattle.replay.proofs.answers.frames.Tie as tie
 
 abbrev Inv-loop : tie.InvT-loop
-Inv-loop times tags n i₀ i = i ≤ n
+Inv-loop times tags n out₀ i₀ out i = i ≤ n
 
 abbrev μ-loop : tie.MeasureT-loop
-μ-loop times tags n i₀ i = n - i
+μ-loop times tags n out₀ i₀ out i = n - i
 
 loop-holds : tie.Need-loop-holds Inv-loop μ-loop
 loop-holds c = search needs

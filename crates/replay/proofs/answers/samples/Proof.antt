@@ -5,10 +5,10 @@ use Rattle.replay.proofs.answers.samples.Statement.{statement}
 use Rattle.replay.proofs.answers.samples.Tie as tie
 
 abbrev Inv-loop : tie.InvT-loop
-Inv-loop rows n i₀ i = i ≤ n
+Inv-loop rows n out₀ i₀ out i = i ≤ n
 
 abbrev μ-loop : tie.MeasureT-loop
-μ-loop rows n i₀ i = n - i
+μ-loop rows n out₀ i₀ out i = n - i
 
 slice-aggregate-put : tie.Need-slice-aggregate-put Inv-loop μ-loop
 slice-aggregate-put c = search needs
