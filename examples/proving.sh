@@ -10,6 +10,14 @@ stop() {
 
 readable() { [ -r "$1" ] && [ ! -d "$1" ]; } # FILE
 
+# The name of a file or folder from the root on.
+absolute() { # NAME
+    case $1 in
+    /*) printf '%s' "$1" ;;
+    *) printf '%s' "$PWD/$1" ;;
+    esac
+}
+
 # How many crates stand below a crate and are not the toolchain's, and itself.
 crates_to_prove() { # CRATE
     awk -F: -v crate="$1" '
@@ -49,7 +57,7 @@ progress() {
 give_up() {
     tell "the proof failed. $log ends with:"
     tail -n 10 "$log" >&2
-    exit 1
+    exit 2
 }
 
 # prove CRATE COMMAND: by `rt COMMAND CRATE`, whose status goes round the pipe on a descriptor of its own.

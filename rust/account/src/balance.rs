@@ -1,11 +1,12 @@
 //! The balance of demand 3: on each track offered equals stored plus dropped plus removed, and each
-//! number is found exactly once, on one stored frame or one fate line.
+//! number is found exactly once, on one stored frame or one fate line. A stored frame stands on the
+//! track on which it was offered, and where it was placed.
 
 use std::collections::BTreeMap;
 
 use galumper::Cause;
 
-use crate::book::Book;
+use crate::book::{Book, Offering};
 
 /// A frame that is stored in a buffer's state.
 #[derive(Clone, Copy, Debug, PartialEq, Eq)]
@@ -14,6 +15,8 @@ pub struct Stored {
     pub track: u32,
     /// Its number.
     pub number: u32,
+    /// Its presentation time.
+    pub pts: i64,
 }
 
 /// The counts of a track.
@@ -45,6 +48,10 @@ pub enum Fault {
     Found(u32, usize),
     /// A number is found that was not offered.
     NotOffered(u32),
+    /// A number is stored on a track, and was offered on another.
+    OtherTrack(u32, u32),
+    /// A number is stored at a presentation time, and was placed at another.
+    OtherTime(u32, i64),
 }
 
 /// The balance of a buffer.
@@ -62,7 +69,7 @@ impl Balance {
     pub fn of(book: &Book, stored: &[Stored], tracks: u32) -> Self {
         Self {
             tracks: counts(book, stored, tracks),
-            faults: faults(book, stored),
+            faults: [faults(book, stored), misplaced(book, stored)].concat(),
         }
     }
 
@@ -77,20 +84,18 @@ fn counts(book: &Book, stored: &[Stored], tracks: u32) -> BTreeMap<u32, Counts> 
     let mut counts: BTreeMap<u32, Counts> = (1..=tracks)
         .map(|track| (track, Counts::default()))
         .collect();
-    let mut track_of = BTreeMap::new();
+    let offered = book.offered_by_number();
     for offering in &book.offered {
-        let track = offering.frame.track;
-        track_of.insert(offering.number, track);
-        counts.entry(track).or_default().offered += 1;
+        counts.entry(offering.frame.track).or_default().offered += 1;
     }
     for frame in stored {
         counts.entry(frame.track).or_default().stored += 1;
     }
     for fate in &book.fates {
-        let track = track_of.get(&fate.number).copied();
-        let Some(counts) = track.and_then(|track| counts.get_mut(&track)) else {
+        let Some(offering) = offered.get(&fate.number) else {
             continue; // told as a number that was not offered
         };
+        let counts = counts.entry(offering.frame.track).or_default();
         match fate.cause {
             Cause::BEFORE_WINDOW | Cause::AFTER_WINDOW | Cause::NEEDS_POINT => counts.dropped += 1,
             _ => counts.removed += 1,
@@ -122,13 +127,26 @@ fn faults(book: &Book, stored: &[Stored]) -> Vec<Fault> {
     faults
 }
 
+/// The frames that are stored elsewhere than they were offered and placed.
+fn misplaced(book: &Book, stored: &[Stored]) -> Vec<Fault> {
+    let offered = book.offered_by_number();
+    let fault = |frame: &Stored| moved(offered.get(&frame.number)?, frame);
+    stored.iter().filter_map(fault).collect()
+}
+
+fn moved(offering: &Offering, frame: &Stored) -> Option<Fault> {
+    if offering.frame.track != frame.track {
+        return Some(Fault::OtherTrack(frame.number, frame.track));
+    }
+    (offering.placed != frame.pts).then_some(Fault::OtherTime(frame.number, frame.pts))
+}
+
 #[cfg(test)]
 mod tests {
     use galumper::Fate;
     use second::Offered;
 
     use super::*;
-    use crate::book::Offering;
 
     /// A book of frames on these tracks, numbered from 1, and fate lines.
     fn book(tracks: &[u32], fates: &[(u32, u32)]) -> Book {
@@ -146,6 +164,7 @@ mod tests {
                 number,
                 line: number as usize + 1,
                 frame: frame(*track),
+                placed: 0,
             })
             .collect();
         let fate = |(number, cause): &(u32, u32)| Fate {
@@ -159,7 +178,11 @@ mod tests {
     fn stored(frames: &[(u32, u32)]) -> Vec<Stored> {
         let frames = frames.iter();
         frames
-            .map(|&(track, number)| Stored { track, number })
+            .map(|&(track, number)| Stored {
+                track,
+                number,
+                pts: 0,
+            })
             .collect()
     }
 
@@ -201,7 +224,24 @@ mod tests {
     #[test]
     fn a_frame_on_another_track() {
         let balance = Balance::of(&book(&[1, 2], &[]), &stored(&[(1, 1), (1, 2)]), 2);
-        assert_eq!(balance.faults, []);
+        assert_eq!(balance.faults, [Fault::OtherTrack(2, 1)]);
+        assert!(!balance.holds());
+    }
+
+    #[test]
+    fn two_frames_in_each_other_s_place() {
+        let balance = Balance::of(&book(&[1, 2], &[]), &stored(&[(1, 2), (2, 1)]), 2);
+        assert!(balance.tracks.values().all(Counts::balances));
+        let wanted = [Fault::OtherTrack(2, 1), Fault::OtherTrack(1, 2)];
+        assert_eq!(balance.faults, wanted);
+    }
+
+    #[test]
+    fn a_frame_at_another_time() {
+        let mut frames = stored(&[(1, 1), (1, 2)]);
+        frames[1].pts = 7;
+        let balance = Balance::of(&book(&[1, 1], &[]), &frames, 1);
+        assert_eq!(balance.faults, [Fault::OtherTime(2, 7)]);
         assert!(!balance.holds());
     }
 

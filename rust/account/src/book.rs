@@ -15,10 +15,12 @@ pub struct Offering {
     pub line: usize,
     /// The frame as offered.
     pub frame: Offered,
+    /// Its presentation time in the buffer, with the timestamp offset added.
+    pub placed: i64,
 }
 
 /// A fate line, with the line of the call that handed it out.
-#[derive(Clone, Copy, Debug, PartialEq, Eq, PartialOrd, Ord)]
+#[derive(Clone, Copy, Debug, PartialEq, Eq)]
 pub struct FateLine {
     /// The call's line.
     pub line: usize,
@@ -60,6 +62,14 @@ impl Book {
             cause: fate.cause,
         });
         self.fates.extend(lines);
+    }
+
+    /// The frames by number.
+    pub fn offered_by_number(&self) -> BTreeMap<u32, Offering> {
+        let offered = self.offered.iter();
+        offered
+            .map(|offering| (offering.number, *offering))
+            .collect()
     }
 
     /// The fate lines by the number of their frame.

@@ -42,8 +42,9 @@ impl Kept {
     /// The frames in the state. A count that a poke made too high is cut to the places there are.
     fn stored(&self) -> Vec<Stored> {
         let count = self.buffer.head.nframes.min(PLACES);
-        let tags = self.buffer.tags[..count].iter();
-        tags.map(|&[track, _, _, number]| Stored { track, number })
+        let rows = self.buffer.tags.iter().zip(&self.buffer.times);
+        rows.take(count)
+            .map(|(&[track, _, _, number], &[pts, _])| Stored { track, number, pts })
             .collect()
     }
 

@@ -1,12 +1,12 @@
-//! Where buffers are kept with their books: two slots and the saved state. What is in no book any
-//! more when one of them is replaced is noted, with the call that did it.
+//! Where buffers are kept with their books: two slots and the saved state. What a slot said of a frame,
+//! and does not say any more when its buffer is replaced, is noted with the call that did it.
 
-use std::collections::BTreeSet;
+use std::collections::BTreeMap;
 
 use galumper::Buffer;
 
 use crate::balance::Balance;
-use crate::book::{Book, FateLine, Offering};
+use crate::book::{Book, Offering};
 use crate::kept::{Kept, Outcome};
 
 /// A place for a buffer.
@@ -18,14 +18,14 @@ pub enum Place {
     Saved,
 }
 
-/// A frame, or what a fate line said of it, that is in no book any more.
+/// A frame of which a book that was replaced said what is not said any more.
 #[derive(Clone, Debug, PartialEq, Eq)]
 pub struct Vanished {
     /// The frame.
     pub offering: Offering,
     /// What had become of it.
     pub outcome: Outcome,
-    /// Whether the frame is in another book, where only its fate line is not.
+    /// Whether the frame is still told of, and something else is said.
     pub undone: bool,
 }
 
@@ -90,10 +90,10 @@ impl Places {
 
     /// The saved state, if it has frames that no slot has.
     pub fn only_saved(&self) -> Option<&Saved> {
-        let elsewhere = offered_lines(self.in_slots().map(|(_, kept)| &kept.book));
+        let elsewhere = Said::by(self.in_slots().map(|(_, kept)| kept));
         self.saved.as_ref().filter(|saved| {
             let mut offered = saved.kept.book.offered.iter();
-            offered.any(|offering| !elsewhere.contains(&offering.line))
+            offered.any(|offering| !elsewhere.has(offering))
         })
     }
 
@@ -117,21 +117,30 @@ impl Places {
         let slot = self.slot();
         let old = self.saved.replace(Saved { kept, slot, line });
         if let Some(old) = old {
-            self.note(Place::Saved, old.kept, "save", line);
+            let vanished = self.vanished_from_saved(&old.kept);
+            self.note(Place::Saved, &old.kept, vanished, "save", line);
         }
         Some(())
     }
 
     fn put(&mut self, kept: Kept, call: &'static str, line: usize) {
+        let said = Said::by([&kept]);
         let old = self.slots[self.in_use].replace(kept);
         if let Some(old) = old {
-            self.note(Place::Slot(self.slot()), old, call, line);
+            let vanished = said.vanished(&old);
+            self.note(Place::Slot(self.slot()), &old, vanished, call, line);
         }
     }
 
     /// Notes a buffer that was replaced, if anything vanished with it.
-    fn note(&mut self, place: Place, old: Kept, call: &'static str, line: usize) {
-        let vanished = self.vanished(&old);
+    fn note(
+        &mut self,
+        place: Place,
+        old: &Kept,
+        vanished: Vec<Vanished>,
+        call: &'static str,
+        line: usize,
+    ) {
         if !vanished.is_empty() {
             self.replaced.push(Replaced {
                 place,
@@ -143,35 +152,51 @@ impl Places {
         }
     }
 
-    /// What a buffer's book has and none in a place.
-    fn vanished(&self, old: &Kept) -> Vec<Vanished> {
-        let lines = offered_lines(self.books());
-        let fates: BTreeSet<FateLine> = self.books().flat_map(|book| book.fates.clone()).collect();
-        let told = |outcome: &Outcome| match outcome {
-            Outcome::Lost(fate) => fates.contains(fate),
-            Outcome::Held | Outcome::Missing => true,
-        };
-        let outcomes = old.outcomes().into_iter();
-        let vanished = outcomes.map(|(offering, outcome)| Vanished {
-            undone: lines.contains(&offering.line),
-            offering,
-            outcome,
-        });
+    /// What vanishes with a saved state. It was shown to nobody, so that where another book has a frame
+    /// which it held, nothing does.
+    fn vanished_from_saved(&self, old: &Kept) -> Vec<Vanished> {
+        let saved = self.saved.iter().map(|saved| &saved.kept);
+        let said = Said::by(self.in_slots().map(|(_, kept)| kept).chain(saved));
+        let mut vanished = said.vanished(old);
+        vanished.retain(|row| !row.undone || row.outcome != Outcome::Held);
         vanished
-            .filter(|row| !row.undone || !told(&row.outcome))
-            .collect()
-    }
-
-    fn books(&self) -> impl Iterator<Item = &Book> {
-        let saved = self.saved.iter().map(|saved| &saved.kept.book);
-        self.in_slots().map(|(_, kept)| &kept.book).chain(saved)
     }
 }
 
-/// The lines of the frames in some books, by which a frame is known: its number may be another's
-/// too, after a restore.
-fn offered_lines<'b>(books: impl Iterator<Item = &'b Book>) -> BTreeSet<usize> {
-    books
-        .flat_map(|book| book.offered.iter().map(|offering| offering.line))
-        .collect()
+/// What some books say of their frames. A frame is known by its line: its number may be another's too,
+/// after a restore.
+struct Said(BTreeMap<usize, Vec<Outcome>>);
+
+impl Said {
+    fn by<'k>(buffers: impl IntoIterator<Item = &'k Kept>) -> Self {
+        let mut said: BTreeMap<usize, Vec<Outcome>> = BTreeMap::new();
+        for (offering, outcome) in buffers.into_iter().flat_map(Kept::outcomes) {
+            said.entry(offering.line).or_default().push(outcome);
+        }
+        Self(said)
+    }
+
+    /// Whether a book has the frame.
+    fn has(&self, offering: &Offering) -> bool {
+        self.0.contains_key(&offering.line)
+    }
+
+    /// Whether a book has the frame and says this of it.
+    fn says(&self, offering: &Offering, outcome: &Outcome) -> bool {
+        let said = self.0.get(&offering.line);
+        said.is_some_and(|outcomes| outcomes.contains(outcome))
+    }
+
+    /// What another buffer's book says and these do not.
+    fn vanished(&self, old: &Kept) -> Vec<Vanished> {
+        let outcomes = old.outcomes().into_iter();
+        outcomes
+            .filter(|(offering, outcome)| !self.says(offering, outcome))
+            .map(|(offering, outcome)| Vanished {
+                undone: self.has(&offering),
+                offering,
+                outcome,
+            })
+            .collect()
+    }
 }

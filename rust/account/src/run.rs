@@ -1,6 +1,6 @@
 //! The calls of a script, made one by one on the proved library and booked.
 
-use galumper::{Fate, ListedFrame, Range};
+use galumper::{Buffer, Fate, ListedFrame, Range, FATES};
 use script::{row_of, Call, Place as _, Proved, Subject};
 use second::Offered;
 
@@ -177,6 +177,7 @@ impl Kept {
             number: self.buffer.head.last,
             line,
             frame,
+            placed: placed(&frame, &self.buffer),
         });
         self.book.lose(line, &fates[..count]);
         Ok(())
@@ -194,19 +195,33 @@ impl Kept {
             .map(|frame| ListedFrame::of(row_of(frame)))
             .collect();
         let mut fates = vec![Fate::default(); lines];
-        let before = self.buffer.head.last;
+        let mut before = self.buffer.clone();
         let batch = Proved.append_batch(&mut self.buffer, &rows, &mut fates)?;
         let accepted = call.frames.iter().zip(frames).take(batch.accepted);
-        let offerings = (1..)
-            .zip(accepted)
-            .map(|(place, ((line, _), frame))| Offering {
-                number: before + place,
-                line: *line,
-                frame: *frame,
-            });
+        let offerings =
+            accepted.map(|((line, _), frame)| offered_singly(&mut before, *line, frame));
         self.book.offered.extend(offerings);
         self.book.lose(call.line, &fates[..batch.lines]);
         Ok((batch.accepted, batch.stop))
+    }
+}
+
+/// Where the frame that a buffer accepted last was placed: the offset does not change after it is added.
+fn placed(frame: &Offered, buffer: &Buffer) -> i64 {
+    frame.pts + buffer.head.settings.offset.micros
+}
+
+/// A frame of a batch, appended by itself to the buffer as it was before it. A batch is its appends one by one,
+/// and these show the number and the offset of each.
+fn offered_singly(buffer: &mut Box<Buffer>, line: usize, frame: &Offered) -> Offering {
+    let mut fates = vec![Fate::default(); FATES];
+    let appended = Proved.append(buffer, frame, &mut fates);
+    appended.expect("a frame that the batch accepted");
+    Offering {
+        number: buffer.head.last,
+        line,
+        frame: *frame,
+        placed: placed(frame, buffer),
     }
 }
 
@@ -326,19 +341,87 @@ mod tests {
     fn frames_that_only_the_saved_state_has() {
         let script = "create 0\nappend 1 0 0 100 1\nsave\ncreate 0";
         let kept = run(script);
-        assert!(kept.places.replaced.is_empty());
         let saved = kept.places.only_saved().expect("a saved state");
         assert_eq!((saved.slot, saved.line), (1, 3));
         assert_eq!(saved.kept.book.offered.len(), 1);
 
         let gone = run(&format!("{script}\nsave"));
         assert!(gone.places.only_saved().is_none());
-        let [replaced] = &gone.places.replaced[..] else {
+        let [created, saved] = &gone.places.replaced[..] else {
             panic!("{:?}", gone.places.replaced);
         };
-        let how = (replaced.place, replaced.call, replaced.line);
-        assert_eq!(how, (Place::Saved, "save", 5));
-        assert_eq!(vanished(replaced), [(1, 2, 0, 0)]);
+        assert_eq!((created.place, created.line), (Place::Slot(1), 4));
+        assert_eq!((saved.place, saved.line), (Place::Saved, 5));
+        for replaced in [created, saved] {
+            assert_eq!(vanished(replaced), [(1, 2, 0, 0)]);
+        }
+    }
+
+    #[test]
+    fn a_slot_tells_what_it_loses_whatever_the_other_has() {
+        let copied = "create 0\nappend 1 0 0 100 1\nsave\nbuffer 2\nrestore\n";
+        let calls = [
+            ("remove 0 1\nsave", "restore", true),
+            ("remove 0 1\nsave", "create 0", false),
+            ("remove 2 3\nsave", "create 0", false),
+        ];
+        for (in_two, in_one, undone) in calls {
+            let run = run(&format!("{copied}{in_two}\nbuffer 1\n{in_one}"));
+            let [replaced] = &run.places.replaced[..] else {
+                panic!("{in_one}: {:?}", run.places.replaced);
+            };
+            assert_eq!((replaced.place, replaced.line), (Place::Slot(1), 9));
+            assert_eq!(vanished(replaced), [(1, 2, 0, 0)]);
+            assert_eq!(replaced.vanished[0].undone, undone);
+        }
+    }
+
+    #[test]
+    fn a_state_saved_again_takes_no_frame() {
+        let run = run("create 0\nappend 1 0 0 100 1\nsave\nremove 0 1\nsave");
+        assert!(run.places.replaced.is_empty());
+    }
+
+    #[test]
+    fn a_restore_over_a_spoilt_state() {
+        let run = run("create 0\nappend 1 0 0 100 1\nsave\npoke frames 0\nrestore");
+        let [replaced] = &run.places.replaced[..] else {
+            panic!("{:?}", run.places.replaced);
+        };
+        assert_eq!(replaced.vanished[0].outcome, Outcome::Missing);
+        assert!(!run.balances());
+    }
+
+    /// Where the frames in slot 1 were placed.
+    fn placed_in(run: &Run) -> Vec<i64> {
+        let (_, kept) = run.places.in_slots().next().expect("a buffer");
+        let offered = kept.book.offered.iter();
+        offered.map(|offering| offering.placed).collect()
+    }
+
+    #[test]
+    fn frames_are_placed_by_the_offset() {
+        let run = run("create 0\noffset 0.0005\nappend 1 0 0 100 1\n\
+                       offset -0.001\nappend 1 500 500 100 1");
+        assert_eq!(placed_in(&run), [500, -500]);
+        assert_eq!(in_slot(&run, 1), [(1, 3, 0, 0), (2, 5, 5, 1)]);
+    }
+
+    #[test]
+    fn each_frame_of_a_batch_has_its_own_offset() {
+        let frames = ["1 5000 5000", "1 9000 9000", "1 200 200"];
+        let call = |name: &str| {
+            frames
+                .map(|frame| format!("{name} {frame} 100 1\n"))
+                .concat()
+        };
+        let batch = run(&format!(
+            "create 0\nmode sequence\nbatch 3\n{}",
+            call("frame")
+        ));
+        assert_eq!(placed_in(&batch), [0, 100, 200]);
+        let singly = run(&format!("create 0\nmode sequence\n{}", call("append")));
+        assert_eq!(placed_in(&singly), [0, 100, 200]);
     }
 
     #[test]

@@ -11,8 +11,8 @@ use crate::table::{table, Side};
 use crate::words;
 
 const PREFACE: &str = "\
-Times and lengths are in seconds; a line is a line of the script. A frame's times are as it was offered;
-what a track holds lies where the timestamp offset put it.
+Times and lengths are in seconds; a line is a line of the script. Presentation and decode times are as offered;
+a frame is placed at its presentation time with the timestamp offset added.
 ";
 
 /// So many letters of a call are shown.
@@ -95,7 +95,7 @@ fn frames(kept: &Kept) -> String {
     if outcomes.is_empty() {
         return "\n  No frame was offered and accepted.\n".to_string();
     }
-    let rows: Vec<[String; 8]> = outcomes
+    let rows: Vec<[String; 9]> = outcomes
         .iter()
         .map(|(offering, outcome)| frame(offering, words::outcome(outcome)))
         .collect();
@@ -105,7 +105,7 @@ fn frames(kept: &Kept) -> String {
     )
 }
 
-fn frame_heads(outcome: &str) -> [(&str, Side); 8] {
+fn frame_heads(outcome: &str) -> [(&str, Side); 9] {
     [
         ("frame", Side::Right),
         ("line", Side::Right),
@@ -114,11 +114,12 @@ fn frame_heads(outcome: &str) -> [(&str, Side); 8] {
         ("decode", Side::Right),
         ("duration", Side::Right),
         ("random access", Side::Left),
+        ("placed at", Side::Right),
         (outcome, Side::Left),
     ]
 }
 
-fn frame(offering: &Offering, outcome: String) -> [String; 8] {
+fn frame(offering: &Offering, outcome: String) -> [String; 9] {
     let frame = &offering.frame;
     let flag = if frame.flagged { "yes" } else { "no" };
     [
@@ -129,6 +130,7 @@ fn frame(offering: &Offering, outcome: String) -> [String; 8] {
         words::seconds(frame.dts),
         words::seconds(i64::from(frame.duration)),
         flag.to_string(),
+        words::seconds(offering.placed),
         outcome,
     ]
 }
@@ -228,7 +230,7 @@ fn numbers(balance: &Balance) -> String {
 fn vanished(replaced: &Replaced) -> String {
     let Replaced { call, line, .. } = replaced;
     let place = words::place(replaced.place);
-    let rows: Vec<[String; 8]> = replaced
+    let rows: Vec<[String; 9]> = replaced
         .vanished
         .iter()
         .map(|row| frame(&row.offering, words::vanished(row)))
@@ -317,9 +319,9 @@ The balance holds.
 Slot 1: the buffer created at line 1, restored at line 7
 
   Frames offered and accepted
-  frame  line  track  presentation    decode  duration  random access  what became of it
-      1     2      1      0.000000  0.000000  0.000100  yes            held
-      2     3      1      0.000200  0.000200  0.000100  yes            held
+  frame  line  track  presentation    decode  duration  random access  placed at  what became of it
+      1     2      1      0.000000  0.000000  0.000100  yes             0.000000  held
+      2     3      1      0.000200  0.000200  0.000100  yes             0.000200  held
 
   Held at the end on track 1 (audio)
       from        to    length
@@ -333,9 +335,9 @@ Slot 1: the buffer created at line 1, restored at line 7
   Each number from 1 to 2 is found exactly once, on a stored frame or a fate line.
 
 Gone or undone in slot 1 by the restore at line 7
-  frame  line  track  presentation    decode  duration  random access  what had become of it
-      2     3      1      0.000200  0.000200  0.000100  yes            removed at line 6: begins in a removed stretch (undone)
-      3     5      1      0.000300  0.000300  0.000100  yes            held until then
+  frame  line  track  presentation    decode  duration  random access  placed at  what had become of it
+      2     3      1      0.000200  0.000200  0.000100  yes             0.000200  removed at line 6: begins in a removed stretch (undone)
+      3     5      1      0.000300  0.000300  0.000100  yes             0.000300  held until then
   The balance held until then.
 
 The balance holds.
@@ -349,7 +351,7 @@ The balance holds.
         for line in [
             "Line 3 is the first poke, of slot 1. A poked state is not one that calls led to, \
              and its balance may fail.",
-            "      1     2      1      0.000000  0.000000  0.000100  yes            \
+            "      1     2      1      0.000000  0.000000  0.000100  yes             0.000000  \
              neither stored nor on a fate line",
             "  Held at the end on track 1 (video): not reported, the buffer is not well-formed",
             "      1        1       0        0        0  1 is not 0 + 0 + 0",

@@ -93,6 +93,13 @@ pub fn fault(fault: &Fault) -> String {
         Fault::NotOffered(number) => {
             format!("Frame {number} is stored or on a fate line, and was not offered.")
         }
+        Fault::OtherTrack(number, track) => {
+            format!("Frame {number} is stored on track {track}, and was offered on another.")
+        }
+        Fault::OtherTime(number, pts) => {
+            let at = seconds(*pts);
+            format!("Frame {number} is stored at {at}, and was placed at another time.")
+        }
     }
 }
 
