@@ -5,7 +5,7 @@
 //! The calls are made on the proved library. Every buffer has a book of the frames that were offered
 //! to it and of the fate lines that its calls handed out; the balance holds the book against the
 //! frames that are stored in the buffer's own state. A book is saved, restored and replaced with its
-//! buffer, and what then is in no book any more is told with the line of that call.
+//! buffer, and what a slot then does not say any more is told with the line of that call.
 
 #![forbid(unsafe_code)]
 
