@@ -1,5 +1,6 @@
-//! Where buffers are kept with their books: two slots and the saved state. What a slot said of a frame,
-//! and does not say any more when its buffer is replaced, is noted with the call that did it.
+//! Where buffers are kept with their books: two slots and the saved state. What a slot said of a
+//! frame, and does not say any more when its buffer is replaced, is noted with the call that did it,
+//! and so is a balance that did not hold.
 
 use std::collections::BTreeMap;
 
@@ -62,7 +63,7 @@ pub struct Places {
     /// The index of the slot in use.
     in_use: usize,
     saved: Option<Saved>,
-    /// Buffers that were replaced, where something vanished with them.
+    /// Buffers that were replaced, where something vanished with them or their balance did not hold.
     pub replaced: Vec<Replaced>,
 }
 
@@ -132,7 +133,7 @@ impl Places {
         }
     }
 
-    /// Notes a buffer that was replaced, if anything vanished with it.
+    /// Notes a buffer that was replaced, if there is anything to tell of it.
     fn note(
         &mut self,
         place: Place,
@@ -141,19 +142,21 @@ impl Places {
         call: &'static str,
         line: usize,
     ) {
-        if !vanished.is_empty() {
-            self.replaced.push(Replaced {
-                place,
-                call,
-                line,
-                vanished,
-                balance: old.balance(),
-            });
+        let balance = old.balance();
+        if vanished.is_empty() && balance.holds() {
+            return;
         }
+        self.replaced.push(Replaced {
+            place,
+            call,
+            line,
+            vanished,
+            balance,
+        });
     }
 
-    /// What vanishes with a saved state. It was shown to nobody, so that where another book has a frame
-    /// which it held, nothing does.
+    /// What vanishes with a saved state. It was shown to nobody, so that where another book has a
+    /// frame which it held, nothing does.
     fn vanished_from_saved(&self, old: &Kept) -> Vec<Vanished> {
         let saved = self.saved.iter().map(|saved| &saved.kept);
         let said = Said::by(self.in_slots().map(|(_, kept)| kept).chain(saved));
@@ -163,8 +166,8 @@ impl Places {
     }
 }
 
-/// What some books say of their frames. A frame is known by its line: its number may be another's too,
-/// after a restore.
+/// What some books say of their frames. A frame is known by its line: its number may be another's
+/// too, after a restore.
 struct Said(BTreeMap<usize, Vec<Outcome>>);
 
 impl Said {

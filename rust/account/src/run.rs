@@ -206,13 +206,13 @@ impl Kept {
     }
 }
 
-/// Where the frame that a buffer accepted last was placed: the offset does not change after it is added.
+/// Where the frame that a buffer accepted last was placed: once added, the offset stays.
 fn placed(frame: &Offered, buffer: &Buffer) -> i64 {
     frame.pts + buffer.head.settings.offset.micros
 }
 
-/// A frame of a batch, appended by itself to the buffer as it was before it. A batch is its appends one by one,
-/// and these show the number and the offset of each.
+/// A frame of a batch, appended by itself to the buffer as it was before that frame. A batch is its
+/// appends one by one, and these show the number and the offset of each.
 fn offered_singly(buffer: &mut Box<Buffer>, line: usize, frame: &Offered) -> Offering {
     let mut fates = vec![Fate::default(); FATES];
     let appended = Proved.append(buffer, frame, &mut fates);

@@ -25,7 +25,7 @@ pub fn text(name: &str, run: &Run) -> String {
     text += &slots(run);
     text += &saved(run.places.only_saved());
     for replaced in &run.places.replaced {
-        text += &vanished(replaced);
+        text += &put_out(replaced);
     }
     text += &not_done(&run.not_done);
     text += match run.balances() {
@@ -226,8 +226,8 @@ fn numbers(balance: &Balance) -> String {
     }
 }
 
-/// What vanished with a buffer that was replaced.
-fn vanished(replaced: &Replaced) -> String {
+/// What is told of a buffer that was replaced.
+fn put_out(replaced: &Replaced) -> String {
     let Replaced { call, line, .. } = replaced;
     let place = words::place(replaced.place);
     let rows: Vec<[String; 9]> = replaced
@@ -235,7 +235,10 @@ fn vanished(replaced: &Replaced) -> String {
         .iter()
         .map(|row| frame(&row.offering, words::vanished(row)))
         .collect();
-    let frames = table(frame_heads("what had become of it"), &rows);
+    let frames = match rows.is_empty() {
+        true => String::new(),
+        false => table(frame_heads("what had become of it"), &rows),
+    };
     let balance = match replaced.balance.holds() {
         true => "  The balance held until then.\n".to_string(),
         false => format!(
@@ -243,7 +246,7 @@ fn vanished(replaced: &Replaced) -> String {
             balance(&replaced.balance)
         ),
     };
-    format!("\nGone or undone in {place} by the {call} at line {line}\n{frames}{balance}")
+    format!("\nPut out of {place} by the {call} at line {line}\n{frames}{balance}")
 }
 
 fn not_done(calls: &[NotDone]) -> String {
@@ -334,7 +337,7 @@ Slot 1: the buffer created at line 1, restored at line 7
       1        2       2        0        0  2 = 2 + 0 + 0
   Each number from 1 to 2 is found exactly once, on a stored frame or a fate line.
 
-Gone or undone in slot 1 by the restore at line 7
+Put out of slot 1 by the restore at line 7
   frame  line  track  presentation    decode  duration  random access  placed at  what had become of it
       2     3      1      0.000200  0.000200  0.000100  yes             0.000200  removed at line 6: begins in a removed stretch (undone)
       3     5      1      0.000300  0.000300  0.000100  yes             0.000300  held until then
@@ -361,6 +364,22 @@ The balance holds.
         ] {
             assert!(text.lines().any(|told| told == line), "{line}\n{text}");
         }
+    }
+
+    #[test]
+    fn a_spoilt_state_that_was_replaced() {
+        let text = told("create 0\nappend 1 0 0 100 1\nsave\npoke frame 1 p 7\nrestore");
+        let wanted = "
+Put out of slot 1 by the restore at line 5
+  The balance did not hold.
+  Balance
+  track  offered  stored  dropped  removed
+      1        1       1        0        0  1 = 1 + 0 + 0
+  Frame 1 is stored at 0.000007, and was placed at another time.
+
+The balance does not hold.
+";
+        assert!(text.ends_with(wanted), "{text}");
     }
 
     #[test]
