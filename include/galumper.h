@@ -27,10 +27,10 @@ extern "C" {
 #endif
 
 /* The version of this header, of its library and of the Rust crate. */
-#define GALUMPER_VERSION "0.4.0"
+#define GALUMPER_VERSION "0.5.0"
 
 /* By these two a library belongs to this header: the number of its layout and functions, and the bytes of a galumper_buffer. */
-#define GALUMPER_ABI 4
+#define GALUMPER_ABI 5
 #define GALUMPER_SIZE 32968
 
 /* The places of the store over all tracks. */
@@ -191,8 +191,8 @@ typedef struct galumper_listed_frame {
     int64_t size;            /* bytes of the frame */
 } galumper_listed_frame;
 
-/* What a call answers: an enum galumper_refusal, and how many lines, ranges or frames it wrote to the lent list. Places of the list
- * past these are not touched. */
+/* What a call answers: an enum galumper_refusal, and how many lines, ranges or frames it wrote to the lent list, whose places past
+ * these are not touched; of galumper_walked, which is lent none, the frames that it counts. */
 typedef struct galumper_answer {
     uint32_t refusal;
     size_t count;
@@ -258,6 +258,8 @@ galumper_answer galumper_lent_track_ranges(galumper_head head, const int64_t tim
                                            size_t places);
 galumper_answer galumper_lent_common_ranges(galumper_head head, const int64_t times[GALUMPER_PLACES][2],
                                             const uint32_t tags[GALUMPER_PLACES][4], galumper_range *ranges, size_t places);
+galumper_answer galumper_lent_walked(galumper_head head, const int64_t times[GALUMPER_PLACES][2],
+                                     const uint32_t tags[GALUMPER_PLACES][4], uint32_t track, size_t places);
 galumper_answer galumper_lent_list_segment(galumper_segment_track of, const uint8_t *segment, size_t length,
                                            galumper_listed_frame *frames, size_t places);
 
@@ -399,6 +401,13 @@ static inline galumper_answer galumper_track_ranges(const galumper_buffer *buffe
 static inline galumper_answer galumper_common_ranges(const galumper_buffer *buffer, galumper_range *ranges, size_t places) {
     galumper_range none;
     return galumper_lent_common_ranges(buffer->head, buffer->times, buffer->tags, places ? ranges : &none, places);
+}
+
+/* How many of a track's frames galumper_track_ranges takes, in presentation order, into a list of so many places. It takes all of them,
+ * or where there is one range too many, those up to and with the first frame of that range; `count` says how many also where the report
+ * itself is refused 10. No list is lent. Refused 1, 3. */
+static inline galumper_answer galumper_walked(const galumper_buffer *buffer, uint32_t track, size_t places) {
+    return galumper_lent_walked(buffer->head, buffer->times, buffer->tags, track, places);
 }
 
 /* Lists a track's frames with their sizes, in file order, from the one movie fragment of a segment, fragmented MP4 by ISO/IEC 14496-12;

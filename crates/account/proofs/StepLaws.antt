@@ -16,7 +16,7 @@ use Rattle.buffer_state.specs.declared.Offered.{Offered}
 use Rattle.buffer_state.specs.declared.Read.{Read}
 use Rattle.buffer_state.specs.declared.WindowEnd.{WindowEnd}
 use Rattle.buffer_state.specs.declared.WindowEnd.the-variants.{Unbounded, At}
-use Rattle.buffer_state.specs.Answers.{changed, abortAnswer, modeAnswer, offsetAnswer, windowStartAnswer, windowEndAnswer, readWith, read, settingsAnswer, counted, timesAfter, tagsAfter, listAfter, appendResult, removeResult, batched, outcomeOf, batchResult, rangeCount, rangesAfter, trackRangesResult, commonRangesResult}
+use Rattle.buffer_state.specs.Answers.{changed, abortAnswer, modeAnswer, offsetAnswer, windowStartAnswer, windowEndAnswer, readWith, read, settingsAnswer, counted, timesAfter, tagsAfter, listAfter, appendResult, removeResult, batched, outcomeOf, batchResult, rangeCount, rangesAfter, trackRangesResult, commonRangesResult, takenCount, walkedResult}
 use Rattle.buffer_state.specs.Append as Append
 use Rattle.buffer_state.specs.Append.{Outcome}
 use Rattle.buffer_state.specs.Batch as Batch
@@ -27,16 +27,17 @@ use Rattle.buffer_state.specs.Ranges as Ranges
 use Rattle.buffer_state.specs.Ranges.{Range}
 use Rattle.buffer_state.specs.Refusals.{Result, refused, done}
 use Rattle.buffer_state.specs.Remove as Remove
-use Rattle.buffer_state.specs.Run.{fates, settings, ranges, accepted, byOutcome, bySetting, byRanges, byBatch, replyTo}
+use Rattle.buffer_state.specs.Run.{fates, settings, ranges, accepted, byOutcome, bySetting, byRanges, byBatch, byWalked, replyTo}
 use Rattle.buffer_state.specs.Settings.{aborted, modeSet, offsetSet, windowStartSet, windowEndSet, reading}
 use Rattle.buffer_state.specs.Store.{Line}
+use Rattle.buffer_state.specs.Walked as Walked
 use Rattle.buffer_state.specs.WellFormed.{goodBuffer}
 use Rattle.buffer_laws.proofs.AnswerLaws.{Leaves, LeavesBatch}
 use Rattle.buffer_laws.proofs.LentLaws.{on-laid-out}
 use Rattle.buffer_laws.proofs.SettingLaws as Setting
 use Rattle.buffer_laws.proofs.SettingLaws.{IfDone, aborted-good, aborted-untouched, mode-good, mode-untouched, offset-set, window-start-set, window-end-set}
 use Rattle.ranges.specs.Bars.{Reported}
-use Rattle.account.specs.Made.{Given, append, remove, abort, setMode, setOffset, setWindowStart, setWindowEnd, readSettings, trackRanges, commonRanges, batch, asked, Back, lineOf, rangeOf, linesOf, joinedOf, rangesOf, changeOf, readingOf, resultOf, writtenLines, KeptPast, Kept, KeptBy}
+use Rattle.account.specs.Made.{Given, append, remove, abort, setMode, setOffset, setWindowStart, setWindowEnd, readSettings, trackRanges, commonRanges, batch, walked, asked, Back, lineOf, rangeOf, linesOf, joinedOf, rangesOf, changeOf, readingOf, walkedOf, resultOf, writtenLines, KeptPast, Kept, KeptBy}
 
 -- a call made on a state agrees with the run's reply: its result, the state that it leaves, what stays of a lent list
 pub record Agrees (b : Buffer) (g : Given) (back : Back g) (s : Lent) : Type 0 where
@@ -117,6 +118,15 @@ spanned b (done rs) lent =
       state = refl;
       kept = stays place rangeOf (λ x. refl) rs rest;
     }
+
+-- a walk
+record Walk (b : Buffer) (x : Result ℕ) (r : Count) : Type 0 where
+  pub result : walkedOf r ≡ byWalked b x .result
+  pub state : lentOf b ≡ lentOf (byWalked b x .after)
+
+walk : (b : Buffer) (x : Result ℕ) → Walk b x (takenCount x)
+walk b (refused why) = record { result = refl; state = refl }
+walk b (done n) = record { result = refl; state = refl }
 
 -- abort and the setters, which touch no frame
 record Set (b : Buffer) (x : Result Buffer) (r : Changed) : Type 0 where
@@ -262,3 +272,11 @@ module _ (b : Buffer) (good : goodBuffer b ≡ true) (s : Lent) (here : s ≡ le
   common-ranges-agrees lent after r h =
       let o = report (Ranges.commonRanges (length lent)) lent after r h in
       record { result = o .result; state = here ∙ o .state; kept = o .kept }
+
+  pub walked-agrees : (track room : ℕ) (r : Count) → r ≡ takenCount (walkedResult room track (s .head) (s .times) (s .tags)) → Agrees b (walked track room) r s
+  unfolding walkedResult replyTo
+  walked-agrees track room r h =
+      let call = Walked.walked room track in
+      let e : r ≡ takenCount (call b) = h ∙ ap takenCount (on-buffer call) in
+      let o = walk b (call b) in
+      record { result = ap walkedOf e ∙ o .result; state = here ∙ o .state; kept = tt }

@@ -22,7 +22,7 @@ use Rattle.buffer_state.specs.Buffer.{fresh}
 use Rattle.buffer_state.specs.Lent.{Lent, lentOf, bufferIn}
 use Rattle.buffer_state.specs.Run.{Entry, run, lastOf, offers, foundStored, foundTold, offeredOn, storedOn, droppedOn, removedOn, onOffered}
 use Rattle.buffer_state.specs.WellFormed.{allOf}
-use Rattle.account.specs.Made.{Given, append, remove, abort, setMode, setOffset, setWindowStart, setWindowEnd, readSettings, trackRanges, commonRanges, batch, Made, calls, entries, AllKept}
+use Rattle.account.specs.Made.{Given, append, remove, abort, setMode, setOffset, setWindowStart, setWindowEnd, readSettings, trackRanges, commonRanges, batch, walked, Made, calls, entries, AllKept}
 use Rattle.settings.proofs.create.Reads as Create
 use Rattle.settings.proofs.abort.Reads as Abort
 use Rattle.settings.proofs.set_mode.Reads as SetMode
@@ -35,6 +35,7 @@ use Rattle.batch.proofs.append_batch.Reads as Batch
 use Rattle.remove.proofs.remove.Reads as Remove
 use Rattle.ranges.proofs.track_ranges.Reads as TrackRanges
 use Rattle.ranges.proofs.common_ranges.Reads as CommonRanges
+use Rattle.ranges.proofs.walked.Reads as Walked
 
 -- From one state to another by calls, each handed the head last given and lent the arrays as the last call left them; a call that only
 -- reads leaves all of it. A reference may be any: of those to the arrays, what is behind them is the state's.
@@ -94,6 +95,11 @@ pub data From : Lent → List Made → Lent → Type 0 where
       (s .head, (rows, (at-last times ts, (at-last tags gs, (at-last lent after, tt)))))
       → From (record { head = r .head; times = ts; tags = gs }) ms t
       → From s (record { given = batch (now rows) (now lent); back = record { answer = r .answer; after = after } } ∷ ms) t
+  by-walk : {s t : Lent} {ms : List Made} (track room : ℕ) (times : RefT (List (List ℤ))) (tags : RefT (List (List ℕ))) (r : Count) (κs : Lfts 2)
+      → Walked.Learnt κs (s .head, (at-last times (s .times), (at-last tags (s .tags), (track, (room, tt))))) r
+      (s .head, (at-last times (s .times), (at-last tags (s .tags), (track, (room, tt)))))
+      → From s ms t
+      → From s (record { given = walked track room; back = r } ∷ ms) t
 
 -- From a creation that was not refused: the kinds, the calls made, the last state. What the arrays held before it is any.
 pub data History : List ℕ → List Made → Lent → Type 0 where
@@ -117,8 +123,8 @@ pub record Account (es : List Entry) (t : Lent) : Type 0 where
 
 -- THE CLAIM about a history: kinds, calls made, last state. The plain run is fed the kinds and the calls' arguments alone.
 pub record Claim (kinds : List ℕ) (ms : List Made) (t : Lent) : Type 0 where
-  -- every refusal, every fate list with its causes, every range list and every reading is the run's, and of every batch how many frames
-  -- were accepted and what stopped it,
+  -- every refusal, every fate list with its causes, every range list and every reading is the run's, of every batch how many frames were
+  -- accepted and what stopped it, and of every walk how many frames it took,
   pub results : entries ms ≡ run (fresh kinds) (calls ms)
   -- and so is the last state
   pub state : t ≡ lentOf (lastOf (fresh kinds) (calls ms))

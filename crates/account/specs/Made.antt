@@ -20,12 +20,12 @@ use Rattle.buffer_state.specs.declared.WindowEnd.the-variants.{Unbounded, At}
 use Rattle.buffer_state.specs.Batch.{offeredIn}
 use Rattle.buffer_state.specs.Ranges.{Range}
 use Rattle.buffer_state.specs.Refusals.{Result, refused, done}
-use Rattle.buffer_state.specs.Run.{Call, appendCall, removeCall, abortCall, modeCall, offsetCall, windowStartCall, windowEndCall, readCall, rangesCall, commonCall, batchCall, Answer, ok, fates, settings, ranges, accepted, Entry}
+use Rattle.buffer_state.specs.Run.{Call, appendCall, removeCall, abortCall, modeCall, offsetCall, windowStartCall, windowEndCall, readCall, rangesCall, commonCall, batchCall, walkedCall, Answer, ok, fates, settings, ranges, accepted, taken, Entry}
 use Rattle.buffer_state.specs.Store.{Line}
 
 -- ---- a call
 
--- every argument except the state; of a lent list, what it holds
+-- every argument except the state; of a lent list, what it holds; of a walk, the track and how many places it has room for
 pub data Given : Type 0 where
   append : Offered → List (List ℕ) → Given
   remove : Float → Float → List (List ℕ) → Given
@@ -38,6 +38,7 @@ pub data Given : Type 0 where
   trackRanges : ℕ → List (List ℤ) → Given
   commonRanges : List (List ℤ) → Given
   batch : List (List ℤ) → List (List ℕ) → Given
+  walked : ℕ → ℕ → Given
 
 -- what the plain run is fed of it: the arguments, and how many places a lent list has
 abbrev pub asked : Given → Call
@@ -52,6 +53,7 @@ asked readSettings = readCall
 asked (trackRanges track lent) = rangesCall (length lent) track
 asked (commonRanges lent) = commonCall (length lent)
 asked (batch rows lent) = batchCall (length lent) (map offeredIn rows)
+asked (walked track room) = walkedCall room track
 
 -- ---- what it hands back beside the state
 
@@ -77,6 +79,7 @@ Back readSettings = Read
 Back (trackRanges track lent) = Listed (List ℤ)
 Back (commonRanges lent) = Listed (List ℤ)
 Back (batch rows lent) = Joined
+Back (walked track room) = Count
 
 pub record Made : Type 0 where
   pub given : Given
@@ -114,6 +117,10 @@ readingOf (Read.Bounded offset start end) = done (settings (record { offset = of
 readingOf (Read.Unbounded offset start) = done (settings (record { offset = offset; start = start; end = Unbounded }))
 readingOf (Read.Refused why) = refused why
 
+abbrev pub walkedOf : Count → Result Answer
+walkedOf (Count.Done n) = done (taken n)
+walkedOf (Count.Refused why) = refused why
+
 abbrev pub resultOf : (g : Given) → Back g → Result Answer
 resultOf (append f lent) l = linesOf l (l .answer)
 resultOf (remove start end lent) l = linesOf l (l .answer)
@@ -126,6 +133,7 @@ resultOf readSettings r = readingOf r
 resultOf (trackRanges track lent) l = rangesOf l (l .answer)
 resultOf (commonRanges lent) l = rangesOf l (l .answer)
 resultOf (batch rows lent) l = joinedOf l (l .answer)
+resultOf (walked track room) r = walkedOf r
 
 abbrev pub calls : List Made → List Call
 calls = map (λ (m : Made). asked (m .given))
@@ -163,6 +171,7 @@ KeptBy readSettings r = Unit {0}
 KeptBy (trackRanges track lent) l = Kept lent l
 KeptBy (commonRanges lent) l = Kept lent l
 KeptBy (batch rows lent) l = KeptPast (writtenLines (l .answer)) lent (l .after)
+KeptBy (walked track room) r = Unit {0}
 
 abbrev pub AllKept : List Made → Type 0
 AllKept [] = Unit {0}

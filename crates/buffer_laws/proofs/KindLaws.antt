@@ -20,9 +20,10 @@ use Rattle.buffer_state.specs.Limits.{places, lastNumber}
 use Rattle.buffer_state.specs.Ranges.{Range, trackRanges, commonRanges}
 use Rattle.buffer_state.specs.Refusals.{Result, refused, done}
 use Rattle.buffer_state.specs.Remove.{beforeBound, removalMarks, endsTrack, afterLoss, removed, remove}
-use Rattle.buffer_state.specs.Run.{Call, appendCall, removeCall, abortCall, modeCall, offsetCall, windowStartCall, windowEndCall, readCall, rangesCall, commonCall, batchCall, byOutcome, bySetting, byRanges, byBatch, replyTo, lastOf}
+use Rattle.buffer_state.specs.Run.{Call, appendCall, removeCall, abortCall, modeCall, offsetCall, windowStartCall, windowEndCall, readCall, rangesCall, commonCall, batchCall, walkedCall, byOutcome, bySetting, byRanges, byBatch, byWalked, replyTo, lastOf}
 use Rattle.buffer_state.specs.Settings.{aborted, modeSet, offsetSet, windowEnd, windowStartSet, windowEndSet}
 use Rattle.buffer_state.specs.Store.{Marked}
+use Rattle.buffer_state.specs.Walked.{walked}
 use Rattle.buffer_laws.proofs.SettingLaws.{IfDone, if-done}
 use Rattle.buffer_laws.proofs.BatchLaws.{each-keeps}
 
@@ -125,6 +126,10 @@ ranges-kinds : (b : Buffer) (r : Result (List Range)) → kindsOf (byRanges b r 
 ranges-kinds b (refused why) = refl
 ranges-kinds b (done rs) = refl
 
+walked-kinds : (b : Buffer) (r : Result ℕ) → kindsOf (byWalked b r .after) ≡ kindsOf b
+walked-kinds b (refused why) = refl
+walked-kinds b (done n) = refl
+
 outcome-kinds : (b : Buffer) (r : Result Outcome) → IfDone (Kinds b) r → kindsOf (byOutcome b r .after) ≡ kindsOf b
 outcome-kinds b (refused why) e = refl
 outcome-kinds b (done o) e = e
@@ -160,6 +165,7 @@ reply-kinds (batchCall lent fs) b =
     by-test Same (ltb mostFrames (length fs)) (λ _. refl)
     (λ _. by-test Same (ltb lent batchLines) (λ _. refl)
     (λ _. each-keeps (λ (c : Buffer). kindsOf c ≡ kindsOf b) (λ f c o e same. if-done (Kinds c) (append places f c) (append-kinds places f c) e ∙ same) fs b refl))
+reply-kinds (walkedCall lent track) b = walked-kinds b (walked lent track b)
 
 run-kinds : (b : Buffer) (cs : List Call) → kindsOf (lastOf b cs) ≡ kindsOf b
 unfolding lastOf

@@ -20,7 +20,8 @@ use Rattle.buffer_state.specs.Batch.{Batch, mostFrames, batchLines, batch}
 use Rattle.buffer_state.specs.Remove.{beforeBound, removed, remove}
 use Rattle.buffer_state.specs.Ranges.{Range, trackRanges, commonRanges}
 use Rattle.buffer_state.specs.Settings.{create, aborted, modeSet, offsetSet, windowStartSet, windowEndSet}
-use Rattle.buffer_state.specs.Run.{Call, appendCall, removeCall, abortCall, modeCall, offsetCall, windowStartCall, windowEndCall, readCall, rangesCall, commonCall, batchCall, Answer, ok, ranges, Reply, byOutcome, bySetting, byRanges, byBatch, replyTo, run, lastOf, linesIn, handedOut, offeredBy, offers, onOffered}
+use Rattle.buffer_state.specs.Run.{Call, appendCall, removeCall, abortCall, modeCall, offsetCall, windowStartCall, windowEndCall, readCall, rangesCall, commonCall, batchCall, walkedCall, Answer, ok, ranges, Reply, byOutcome, bySetting, byRanges, byBatch, byWalked, replyTo, run, lastOf, linesIn, handedOut, offeredBy, offers, onOffered}
+use Rattle.buffer_state.specs.Walked.{walked}
 use Rattle.buffer_laws.proofs.LayoutLaws.{good-well-formed, well-formed-good}
 use Rattle.buffer_laws.proofs.GoodLaws.{Good, good-facts, facts-good}
 use Rattle.buffer_laws.proofs.RemoveLaws.{removed-good, removed-accounts, removed-all}
@@ -57,6 +58,10 @@ ranges-lawful : (c : Call) (b : Buffer) (r : Result (List Range)) → ((a : Resu
 ranges-lawful c b (refused why) none = rw (none (refused why)) (same b)
 ranges-lawful c b (done rs) none = rw (none (done (ranges rs))) (same b)
 
+walked-lawful : (lent track : ℕ) (b : Buffer) (r : Result ℕ) → LawfulReply (walkedCall lent track) b (byWalked b r)
+walked-lawful lent track b (refused why) = same b
+walked-lawful lent track b (done n) = same b
+
 -- Preservation and conservation, of every call on every buffer.
 pub reply-lawful : (c : Call) (b : Buffer) → LawfulReply c b (replyTo c b)
 unfolding replyTo remove batch
@@ -80,6 +85,7 @@ reply-lawful (batchCall lent fs) b =
     by-test Law (ltb mostFrames (length fs)) (λ _. same b)
     (λ _. by-test Law (ltb lent batchLines) (λ _. same b)
     (λ _. each-lawful fs b))
+reply-lawful (walkedCall lent track) b = walked-lawful lent track b (walked lent track b)
 
 -- ---- on states: every call on a well-formed state leaves a well-formed state, and creation gives one
 

@@ -28,6 +28,7 @@ use Rattle.buffer_state.specs.Refusals.{Result, refused, done}
 use Rattle.buffer_state.specs.Remove.{remove}
 use Rattle.buffer_state.specs.Settings.{create, aborted, modeSet, offsetSet, windowStartSet, windowEndSet, Reading, reading}
 use Rattle.buffer_state.specs.Store.{Line}
+use Rattle.buffer_state.specs.Walked.{walked}
 
 -- creation, abort and the setters: after a refusal, the head that is given first
 abbrev pub changed : Head → Result Buffer → Changed
@@ -139,3 +140,12 @@ trackRangesResult lent track = onLent (trackRanges lent track)
 
 unfoldable pub commonRangesResult : ℕ → Head → List (List ℤ) → List (List ℕ) → Result (List Range)
 commonRangesResult lent = onLent (commonRanges lent)
+
+-- ---- how many frames the walk of a report takes
+
+abbrev pub takenCount : Result ℕ → Count
+takenCount (refused why) = Count.Refused why
+takenCount (done n) = Count.Done n
+
+unfoldable pub walkedResult : ℕ → ℕ → Head → List (List ℤ) → List (List ℕ) → Result ℕ
+walkedResult lent track = onLent (walked lent track)

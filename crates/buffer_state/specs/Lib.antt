@@ -8,6 +8,7 @@ pub mod Batch
 pub mod Remove
 pub mod Settings
 pub mod Ranges
+pub mod Walked
 pub mod State
 pub mod Layout
 pub mod Lent

@@ -17,6 +17,7 @@ use Rattle.buffer_state.specs.Batch.{Batch, batch}
 use Rattle.buffer_state.specs.Remove.{remove}
 use Rattle.buffer_state.specs.Settings.{aborted, modeSet, offsetSet, windowStartSet, windowEndSet, Reading, reading}
 use Rattle.buffer_state.specs.Ranges.{Range, trackRanges, commonRanges}
+use Rattle.buffer_state.specs.Walked.{walked}
 
 -- a call with its arguments except the state; of a lent list, how many places it has
 pub data Call : Type 0 where
@@ -31,6 +32,7 @@ pub data Call : Type 0 where
   rangesCall : ℕ → ℕ → Call
   commonCall : ℕ → Call
   batchCall : ℕ → List Offered → Call
+  walkedCall : ℕ → ℕ → Call
 
 -- what a call that is not refused hands out
 pub data Answer : Type 0 where
@@ -39,6 +41,7 @@ pub data Answer : Type 0 where
   settings : Reading → Answer
   ranges : List Range → Answer
   accepted : ℕ → Stop → List Line → Answer
+  taken : ℕ → Answer
 
 -- a call's result, and the buffer after it
 pub record Reply : Type 0 where
@@ -64,6 +67,10 @@ abbrev pub byBatch : Buffer → Result Batch → Reply
 byBatch b (refused why) = record { result = refused why; after = b }
 byBatch b (done r) = record { result = done (accepted (r .accepted) (r .stop) (r .outcome .lines)); after = r .outcome .after }
 
+abbrev pub byWalked : Buffer → Result ℕ → Reply
+byWalked b (refused why) = record { result = refused why; after = b }
+byWalked b (done n) = record { result = done (taken n); after = b }
+
 unfoldable pub replyTo : Call → Buffer → Reply
 replyTo (appendCall lent f) b = byOutcome b (append lent f b)
 replyTo (removeCall lent start end) b = byOutcome b (remove lent start end b)
@@ -76,6 +83,7 @@ replyTo readCall b = record { result = done (settings (reading b)); after = b }
 replyTo (rangesCall lent track) b = byRanges b (trackRanges lent track b)
 replyTo (commonCall lent) b = byRanges b (commonRanges lent b)
 replyTo (batchCall lent fs) b = byBatch b (batch lent fs b)
+replyTo (walkedCall lent track) b = byWalked b (walked lent track b)
 
 -- ---- the run
 
@@ -102,6 +110,7 @@ linesIn (done (fates ls)) = ls
 linesIn (done (settings r)) = []
 linesIn (done (ranges rs)) = []
 linesIn (done (accepted n stop ls)) = ls
+linesIn (done (taken n)) = []
 
 -- the lines that a run hands out
 unfoldable pub handedOut : List Entry → List Line
@@ -116,6 +125,7 @@ acceptedIn (done (fates ls)) = 0
 acceptedIn (done (settings r)) = 0
 acceptedIn (done (ranges rs)) = 0
 acceptedIn (done (accepted n stop ls)) = n
+acceptedIn (done (taken n)) = 0
 
 -- The tracks of the frames offered by a call: of an append that is not refused, the one that it names; of a batch those that its
 -- accepted frames name, in list order.
@@ -132,6 +142,7 @@ offeredBy readCall r = []
 offeredBy (rangesCall lent track) r = []
 offeredBy (commonCall lent) r = []
 offeredBy (batchCall lent fs) r = map (λ (f : Offered). f .track) (take (acceptedIn r) fs)
+offeredBy (walkedCall lent track) r = []
 
 -- the tracks of all frames offered in a run: the n-th over all tracks is frame n
 unfoldable pub offers : List Entry → List ℕ

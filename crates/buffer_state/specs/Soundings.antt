@@ -1,9 +1,10 @@
 -- Document 01, "Soundings to check against": cases A to K in one table, each with its whole outcome and an equation of its own, and one
--- proof of all; with them two refused calls of L in the midst of a run, two removals of our own, and batches (document 02, No. 2).
+-- proof of all; with them two refused calls of L in the midst of a run, two removals of our own, batches (document 02, No. 2), and how many
+-- frames the walk of a report takes (No. 3).
 -- Video, one track, durations 100; R is a flagged frame, P one that is not, both given by presentation and decode time.
 use mathlib.Core.Path.{_≡_, refl}
 use mathlib.Core.Bool.{Bool, true, false}
-use mathlib.Core.List.{List, [], _∷_, map}
+use mathlib.Core.List.{List, [], _∷_, _++_, map}
 use Prim.Native.Nat.{ℕ}
 use lib.IntN.{ℤ, pos, negℤ}
 use lib.Ieee.{Float, binary64, ofBits, ofInt, div}
@@ -14,7 +15,7 @@ use Rattle.buffer_state.specs.declared.Track.{Track}
 use Rattle.buffer_state.specs.declared.Mode.the-variants.{Segments, Sequence}
 use Rattle.buffer_state.specs.declared.Group.{Group}
 use Rattle.buffer_state.specs.declared.Offered.{Offered}
-use Rattle.buffer_state.specs.declared.Refusal.the-variants.{FrameLimits, LentSize, Seconds, ShortFates}
+use Rattle.buffer_state.specs.declared.Refusal.the-variants.{FrameLimits, LentSize, NoTrack, Seconds, ShortFates}
 use Rattle.buffer_state.specs.declared.Stop.the-variants.{Nothing, By}
 use Rattle.buffer_state.specs.declared.WindowEnd.the-variants.{Unbounded, At}
 use Rattle.buffer_state.specs.Buffer.{Buffer, fresh, freshTrack, freshSettings}
@@ -26,7 +27,8 @@ use Rattle.buffer_state.specs.Batch.{offeredIn, appendEach, batch}
 use Rattle.buffer_state.specs.Remove.{farEdge, removalMarks, afterLoss, removed, remove}
 use Rattle.buffer_state.specs.Settings.{aborted, modeSet, offsetSet, windowStartSet, windowEndSet}
 use Rattle.buffer_state.specs.Ranges.{Range, joined, rangesOf}
-use Rattle.buffer_state.specs.Run.{Call, appendCall, removeCall, abortCall, modeCall, offsetCall, windowStartCall, windowEndCall, batchCall, Answer, ok, fates, accepted, Entry, replyTo, run, lastOf}
+use Rattle.buffer_state.specs.Walked.{presentedWith, presented, takenFrom, takenOf, walked}
+use Rattle.buffer_state.specs.Run.{Call, appendCall, removeCall, abortCall, modeCall, offsetCall, windowStartCall, windowEndCall, batchCall, walkedCall, Answer, ok, fates, accepted, taken, Entry, replyTo, run, lastOf}
 
 -- a case: the calls on a fresh buffer of one video track, and what they come to
 pub record Case : Type 0 where
@@ -298,6 +300,42 @@ caseP = record {
   ranges = range 0 200 ∷ [];
 }
 
+-- Ours: the walk in presentation order over R 0, P 100, P 300, P 500, which are decoded in another. It takes all four where there is room
+-- for the three ranges, and with room for two; with room for one it leaves at P 300, with none at R 0. No frame, no step; no track, 3.
+abbrev caseQ : Case
+caseQ = record {
+  calls =
+      walkedCall 0 1
+      ∷ R 0 0
+      ∷ P 300 100
+      ∷ P 100 200
+      ∷ P 500 300
+      ∷ map (λ (room : ℕ). walkedCall room 1) (3 ∷ 2 ∷ 1 ∷ 0 ∷ [])
+      ++ walkedCall 3 2
+      ∷ [];
+  results =
+      done (taken 0)
+      ∷ told []
+      ∷ told []
+      ∷ told []
+      ∷ told []
+      ∷ map (λ (n : ℕ). done (taken n)) (4 ∷ 4 ∷ 3 ∷ 1 ∷ [])
+      ++ refused NoTrack
+      ∷ [];
+  left =
+      plain (following 300 600) (frame 1 true 0 0 ∷ frame 2 false 300 100 ∷ frame 3 false 100 200 ∷ frame 4 false 500 300 ∷ []) 600 4;
+  ranges = range 0 200 ∷ range 300 400 ∷ range 500 600 ∷ [];
+}
+
+-- Ours: F, where two frames are presented at 0. Both are taken before the one at 200.
+abbrev caseR : Case
+caseR = record {
+  calls = caseF .calls ++ walkedCall 1 1 ∷ [];
+  results = caseF .results ++ done (taken 3) ∷ [];
+  left = caseF .left;
+  ranges = caseF .ranges;
+}
+
 -- ---- the table
 
 -- what the definitions make of a case's calls
@@ -339,9 +377,11 @@ pub record Table : Type 0 where
   pub N : Holds caseN
   pub O : Holds caseO
   pub P : Holds caseP
+  pub Q : Holds caseQ
+  pub R : Holds caseR
 
 pub soundings-hold : Table
-unfolding tieOf roundOf nearestOf convertible convertibleEnd microsOf secondsOf boundOf sameInt offeredTime resultTime goodDuration before insertSorted followsTaken walkFrom kept linesOf stepOne stepTwo passOf fits regrouped breaks secondPass lastPass leavesLimits overlapped overlapMarks stepNine stored settled appended offerable append appendEach batch farEdge removalMarks afterLoss removed remove aborted modeSet offsetSet windowStartSet windowEndSet joined rangesOf replyTo run lastOf ofBits ofInt div
+unfolding tieOf roundOf nearestOf convertible convertibleEnd microsOf secondsOf boundOf sameInt offeredTime resultTime goodDuration before insertSorted followsTaken walkFrom kept linesOf stepOne stepTwo passOf fits regrouped breaks secondPass lastPass leavesLimits overlapped overlapMarks stepNine stored settled appended offerable append appendEach batch farEdge removalMarks afterLoss removed remove aborted modeSet offsetSet windowStartSet windowEndSet joined rangesOf presentedWith presented takenFrom takenOf walked replyTo run lastOf ofBits ofInt div
 soundings-hold = record {
   A = refl;
   B = refl;
@@ -365,6 +405,8 @@ soundings-hold = record {
   N = refl;
   O = refl;
   P = refl;
+  Q = refl;
+  R = refl;
 }
 
 -- Rows of numbers as offered frames: one that is a frame, then tracks, durations and a flag that no frame can have.

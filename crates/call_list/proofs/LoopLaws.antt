@@ -175,11 +175,11 @@ module _ (rows : List (List ℕ)) (stamps : List (List ℤ)) (seconds : List (Li
       pub lines-room : at + ofLines (getD row 0 0) (getD row 4 0) ≤ length (after .lines)
       lines-room =
           let k : ofLines (getD row 0 0) (getD row 4 0) ≤ length (before .lines) - total offersOfRow (take i rows) =
-          leb-true _ _ (and-left _ _ (and-right (leb (getD row 0 0) 10) _ row-fits)) in
+          leb-true _ _ (and-left _ _ (and-right (leb (getD row 0 0) 11) _ row-fits)) in
           omega (arith, at-few, filled-inside (S .lines), S .lines .same)
 
       pub frames-room : firstFrame row + frameCount row ≤ length frames
-      frames-room = leb-true _ _ (and-right (leb (ofLines (getD row 0 0) (getD row 4 0)) _) _ (and-right (leb (getD row 0 0) 10) _ row-fits))
+      frames-room = leb-true _ _ (and-right (leb (ofLines (getD row 0 0) (getD row 4 0)) _) _ (and-right (leb (getD row 0 0) 11) _ row-fits))
 
       row-total : total rangesOfRow (take (suc i) rows) ≡ total rangesOfRow (take i rows) + rangesOfRow row
       row-total = rw er (total-next rangesOfRow rows i [] h)

@@ -17,8 +17,9 @@ use Rattle.buffer_state.specs.Buffer.{Buffer, hasTrack}
 use Rattle.buffer_state.specs.Ranges.{Range, rangesOf, commonRangesOf, trackRanges, commonRanges}
 use Rattle.buffer_state.specs.Refusals.{Result, refused, done}
 use Rattle.buffer_state.specs.Remove.{remove}
-use Rattle.buffer_state.specs.Run.{Call, readCall, batchCall, Answer, byOutcome, bySetting, byRanges, byBatch, replyTo, linesIn}
+use Rattle.buffer_state.specs.Run.{Call, readCall, batchCall, walkedCall, Answer, byOutcome, bySetting, byRanges, byBatch, byWalked, replyTo, linesIn}
 use Rattle.buffer_state.specs.Settings.{offsetSet, windowStartSet, windowEndSet}
+use Rattle.buffer_state.specs.Walked.{walked}
 use Rattle.call_rows.specs.Encoded.{offeredOf, linesCall, settingCall, rangesCallOf, ofLines, ofRanges, rowCall}
 use Rattle.call_rows.specs.Replies.{sizeOf, doublesIn, rangesIn}
 use Rattle.call_list.specs.Listed.{firstFrame, frameCount, framesOfRow, offersOfRow, noted, readingsIn}
@@ -39,22 +40,26 @@ module _ (kind places : ℕ) (b : Buffer) where
 
   setting-shape : 2 ≤ kind → kind < 7 → (x : Result Buffer) → Shape kind places (bySetting b x .result)
   setting-shape h k (refused why) =
-      record { lines = rw (le-ltb kind 2 h, lt-ltb kind 10 (omega arith)); ranges = rw (lt-ltb kind 8 (omega arith)); few = omega arith; readings = rw (ne-eqb kind 7 (λ e. omega arith)) }
+      record { lines = rw (le-ltb kind 2 h, ne-eqb kind 10 (λ e. omega arith)); ranges = rw (lt-ltb kind 8 (omega arith)); few = omega arith; readings = rw (ne-eqb kind 7 (λ e. omega arith)) }
   setting-shape h k (done c) =
-      record { lines = rw (le-ltb kind 2 h, lt-ltb kind 10 (omega arith)); ranges = rw (lt-ltb kind 8 (omega arith)); few = omega arith; readings = rw (ne-eqb kind 7 (λ e. omega arith)) }
+      record { lines = rw (le-ltb kind 2 h, ne-eqb kind 10 (λ e. omega arith)); ranges = rw (lt-ltb kind 8 (omega arith)); few = omega arith; readings = rw (ne-eqb kind 7 (λ e. omega arith)) }
 
-  batch-shape : 10 ≤ kind → (x : Result Batch) → Shape kind places (byBatch b x .result)
-  batch-shape h (refused why) =
-      record { lines = rw (le-ltb kind 2 (omega arith), le-ltb kind 10 h); ranges = rw (le-ltb kind 8 (omega arith), le-ltb kind 10 h); few = omega arith; readings = rw (ne-eqb kind 7 (λ e. omega arith)) }
-  batch-shape h (done r) =
-      record { lines = rw (le-ltb kind 2 (omega arith), le-ltb kind 10 h); ranges = rw (le-ltb kind 8 (omega arith), le-ltb kind 10 h); few = omega arith; readings = rw (ne-eqb kind 7 (λ e. omega arith)) }
+  batch-shape : kind ≡ 10 → (x : Result Batch) → Shape kind places (byBatch b x .result)
+  batch-shape e (refused why) = rw e (record { lines = refl; ranges = refl; few = omega arith; readings = refl })
+  batch-shape e (done r) = rw e (record { lines = refl; ranges = refl; few = omega arith; readings = refl })
+
+  walk-shape : 10 < kind → (x : Result ℕ) → Shape kind places (byWalked b x .result)
+  walk-shape h (refused why) =
+      record { lines = rw (le-ltb kind 2 (omega arith), ne-eqb kind 10 (λ e. omega arith)); ranges = rw (le-ltb kind 8 (omega arith), le-ltb kind 10 (omega arith)); few = omega arith; readings = rw (ne-eqb kind 7 (λ e. omega arith)) }
+  walk-shape h (done n) =
+      record { lines = rw (le-ltb kind 2 (omega arith), ne-eqb kind 10 (λ e. omega arith)); ranges = rw (le-ltb kind 8 (omega arith), le-ltb kind 10 (omega arith)); few = omega arith; readings = rw (ne-eqb kind 7 (λ e. omega arith)) }
 
   module _ (h : 8 ≤ kind) (k : kind < 10) where
     ranges-shape : (x : Result (List Range)) → length (rangesIn (byRanges b x .result)) ≤ places → Shape kind places (byRanges b x .result)
     ranges-shape (refused why) f =
-        record { lines = rw (le-ltb kind 2 (omega arith), lt-ltb kind 10 k); ranges = rw (le-ltb kind 8 h, lt-ltb kind 10 k); few = omega arith; readings = rw (ne-eqb kind 7 (λ e. omega arith)) }
+        record { lines = rw (le-ltb kind 2 (omega arith), ne-eqb kind 10 (λ e. omega arith)); ranges = rw (le-ltb kind 8 h, lt-ltb kind 10 k); few = omega arith; readings = rw (ne-eqb kind 7 (λ e. omega arith)) }
     ranges-shape (done rs) f =
-        record { lines = rw (le-ltb kind 2 (omega arith), lt-ltb kind 10 k); ranges = rw (le-ltb kind 8 h, lt-ltb kind 10 k); few = rw (le-ltb kind 8 h, lt-ltb kind 10 k) f; readings = rw (ne-eqb kind 7 (λ e. omega arith)) }
+        record { lines = rw (le-ltb kind 2 (omega arith), ne-eqb kind 10 (λ e. omega arith)); ranges = rw (le-ltb kind 8 h, lt-ltb kind 10 k); few = rw (le-ltb kind 8 h, lt-ltb kind 10 k) f; readings = rw (ne-eqb kind 7 (λ e. omega arith)) }
 
     abbrev Few : Result (List Range) → Type 0
     Few x = length (rangesIn (byRanges b x .result)) ≤ places
@@ -107,9 +112,13 @@ module _ (row : List ℕ) (stamps : List ℤ) (seconds : List Float) (frames : L
       by-test Shaped (eqb kind 8) (λ _. ranges-shape kind places b h k (trackRanges places (getD row 1 0) b) (track-few kind places b h k (getD row 1 0)))
       (λ _. ranges-shape kind places b h k (commonRanges places b) (common-few kind places b h k))
 
-  batches-shape : 10 ≤ kind → Shaped (batchCall places (map offeredIn frames))
+  batches-shape : kind ≡ 10 → Shaped (batchCall places (map offeredIn frames))
   unfolding replyTo
-  batches-shape h = batch-shape kind places b h (batch places (map offeredIn frames) b)
+  batches-shape e = batch-shape kind places b e (batch places (map offeredIn frames) b)
+
+  walks-shape : 10 < kind → Shaped (walkedCall places (getD row 1 0))
+  unfolding replyTo
+  walks-shape h = walk-shape kind places b h (walked places (getD row 1 0) b)
 
   pub row-shape : Shaped (rowCall row stamps seconds frames)
   row-shape =
@@ -120,7 +129,11 @@ module _ (row : List ℕ) (stamps : List ℤ) (seconds : List Float) (frames : L
       let l : 7 ≤ kind = ltb-false kind 7 f in
       let n : kind ≡ 7 → ⊥ = eqb-false kind 7 g in
       split (ltb kind 10) (λ m. rw (e, f, g, m) (reports-shape (omega (arith, n)) (ltb-true kind 10 m)))
-      (λ m. rw (e, f, g, m) (batches-shape (ltb-false kind 10 m))))))
+      (λ m. split (eqb kind 10) (λ o. rw (e, f, g, m, o) (batches-shape (eqb-true kind 10 o)))
+      (λ o.
+      let p : 10 ≤ kind = ltb-false kind 10 m in
+      let q : kind ≡ 10 → ⊥ = eqb-false kind 10 o in
+      rw (e, f, g, m, o) (walks-shape (omega (arith, q))))))))
 
 -- ---- what a row's call offers
 
@@ -147,8 +160,10 @@ row-offers row stamps seconds frames =
     (λ _. by-test Few (ltb kind 7) (λ _. omega (arith, settings-offer kind (getD row 2 0) (getD seconds 0 nan)))
     (λ _. by-test Few (eqb kind 7) (λ _. omega arith)
     (λ _. by-test Few (ltb kind 10) (λ _. by-test Few (eqb kind 8) (λ _. omega arith) (λ _. omega arith))
+    (λ _. by-test Few (eqb kind 10)
     (λ e.
     let own = framesOfRow row frames in
-    let h : 10 ≤ kind = ltb-false kind 10 e in
+    let h : kind ≡ 10 = eqb-true kind 10 e in
     let asked : offersOfRow row ≡ frameCount row = rw (ne-eqb kind 0 (λ z. omega arith)) in
-    omega (arith, asked, length-map own offeredIn, take-most (frameCount row) (drop (firstFrame row) frames))))))
+    omega (arith, asked, length-map own offeredIn, take-most (frameCount row) (drop (firstFrame row) frames)))
+    (λ _. omega arith)))))

@@ -3,7 +3,7 @@ use mathlib.Core.Path.{_≡_}
 use mathlib.Core.Bool.{Bool, true, cond, _&&_}
 use mathlib.Core.List.{List, [], _∷_, _++_, map}
 use Prim.Native.Nat.{ℕ, zero, suc, _+_, _-_}
-use lib.Dec.{leb, ltb, eqb}
+use lib.Dec.{leb, eqb}
 use lib.IntN.{ℤ}
 use lib.Ieee.{Float}
 use lib.ListN.{length, take, drop, getD}
@@ -11,7 +11,7 @@ use Rattle.buffer_state.specs.Answers.{written, laid, zeroHead}
 use Rattle.buffer_state.specs.Buffer.{Buffer, fresh}
 use Rattle.buffer_state.specs.Lent.{Lent, lentOf, bufferIn}
 use Rattle.buffer_state.specs.Refusals.{Result, refused, done}
-use Rattle.buffer_state.specs.Run.{Call, Answer, ok, fates, settings, ranges, accepted, Entry, run, lastOf, handedOut, acceptedIn, total}
+use Rattle.buffer_state.specs.Run.{Call, Answer, ok, fates, settings, ranges, accepted, taken, Entry, run, lastOf, handedOut, acceptedIn, total}
 use Rattle.buffer_state.specs.Settings.{create}
 use Rattle.buffer_state.specs.WellFormed.{goodBuffer}
 use Rattle.account.specs.History.{Account}
@@ -25,7 +25,7 @@ use Rattle.call_rows.specs.Replies.{lent, numberOf, sizeOf, stopIn, doublesIn, 
 
 -- of a number in a row, how much is about the frames of a batch
 abbrev pub ofBatch : ℕ → ℕ → ℕ
-ofBatch kind n = cond (ltb kind 10) 0 n
+ofBatch kind n = cond (eqb kind 10) n 0
 
 -- A batch's row names its frames in the list of frames: the place of the first, where an append has its track, and how many, where an
 -- append has its duration.
@@ -50,8 +50,8 @@ encodedCalls rows stamps seconds frames = firstCalls rows stamps seconds frames 
 
 -- ---- what the lists hold
 
--- a call's answer: its refusal number or 0; how many lines, ranges or doubles; of a batch, how many frames were accepted, and the number
--- of the refusal that stopped it or 0
+-- a call's answer: its refusal number or 0; how many lines, ranges or doubles, or frames that a walk took; of a batch, how many frames
+-- were accepted, and the number of the refusal that stopped it or 0
 abbrev pub answerOf : Entry → List ℕ
 answerOf e = numberOf (e .result) ∷ sizeOf (e .result) ∷ acceptedIn (e .result) ∷ stopIn (e .result) ∷ []
 
@@ -63,6 +63,7 @@ readingsIn (done (fates ls)) = []
 readingsIn (done (settings r)) = doublesIn (done (settings r)) ∷ []
 readingsIn (done (ranges rs)) = []
 readingsIn (done (accepted n stop ls)) = []
+readingsIn (done (taken n)) = []
 
 -- what all results have of one sort, in order
 unfoldable pub allOut : {A : Type 0} → (Result Answer → List A) → List Entry → List A
@@ -107,10 +108,10 @@ pub record Replayed (b : Buffer) (cs : List Call) (r : Ran) (before after : List
 
 -- ---- when there is a run
 
--- a kind from 0 to 10, room for the call's lines, and a batch's frames inside the list of frames
+-- a kind from 0 to 11, room for the call's lines, and a batch's frames inside the list of frames
 abbrev pub rowFits : ℕ → ℕ → List ℕ → Bool
 rowFits frames room row =
-    leb (getD row 0 0) 10 && (leb (ofLines (getD row 0 0) (getD row 4 0)) room && leb (firstFrame row + frameCount row) frames)
+    leb (getD row 0 0) 11 && (leb (ofLines (getD row 0 0) (getD row 4 0)) room && leb (firstFrame row + frameCount row) frames)
 
 -- the frames that a row offers
 abbrev pub offersOfRow : List ℕ → ℕ

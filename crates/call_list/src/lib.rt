@@ -10,6 +10,7 @@ use call_rows::BATCH;
 use call_rows::READ;
 use call_rows::Step;
 use call_rows::TRACK_RANGES;
+use call_rows::WALKED;
 use call_rows::wide;
 ghost use mathlib.Core.Path.{_≡_};
 ghost use mathlib.Core.Bool.{true};
@@ -63,10 +64,10 @@ fn of_ranges(kind: u32, n: usize) -> usize
 fn of_batch(kind: u32, n: usize) -> usize
     ensures { λ r. ⌜ r ≡ ofBatch kind n ⌝ }
 {
-    if kind < BATCH {
-        return 0;
+    if kind == BATCH {
+        return n;
     }
-    n
+    0
 }
 
 // Where in the list of frames those of a row begin, and how many they are.
@@ -82,7 +83,7 @@ fn frame_count(row: [u32; 5]) -> usize
     of_batch(row[0], wide(row[3]))
 }
 
-// One call of the list, lent the places from `at` and from `placed` on.
+// One call of the list, lent the places from `at` and from `placed` on. A walk writes none, and is told how many its row names.
 fn call_at(
     h: Head,
     row: [u32; 5],
@@ -101,6 +102,9 @@ fn call_at(
 {
     let kind = row[0];
     let places = wide(row[4]);
+    if WALKED <= kind {
+        return call_rows::walked_step(h, row[1], times, tags, places);
+    }
     let to = at + of_lines(kind, places);
     let end = placed + of_ranges(kind, places);
     let first = first_frame(row);
@@ -214,7 +218,7 @@ fn row_fits(row: [u32; 5], frames: usize, room: usize) -> bool
 {
     let kind = row[0];
     let asked = of_lines(kind, wide(row[4]));
-    (kind <= BATCH) & ((asked <= room) & inside(first_frame(row), frame_count(row), frames))
+    (kind <= WALKED) & ((asked <= room) & inside(first_frame(row), frame_count(row), frames))
 }
 
 fn offers_of_row(row: [u32; 5]) -> usize

@@ -20,7 +20,7 @@ use Rattle.buffer_state.specs.declared.Read.{Read}
 use Rattle.buffer_state.specs.declared.Refusal.the-variants.{IllFormed}
 use Rattle.buffer_state.specs.declared.WindowEnd.{WindowEnd}
 use Rattle.buffer_state.specs.declared.WindowEnd.the-variants.{Unbounded, At}
-use Rattle.buffer_state.specs.Answers.{changed, abortAnswer, modeAnswer, offsetAnswer, windowStartAnswer, windowEndAnswer, readWith, read, settingsAnswer, counted, timesAfter, tagsAfter, listAfter, appendResult, removeResult, batched, outcomeOf, batchResult, rangeCount, rangesAfter, trackRangesResult, commonRangesResult}
+use Rattle.buffer_state.specs.Answers.{changed, abortAnswer, modeAnswer, offsetAnswer, windowStartAnswer, windowEndAnswer, readWith, read, settingsAnswer, counted, timesAfter, tagsAfter, listAfter, appendResult, removeResult, batched, outcomeOf, batchResult, rangeCount, rangesAfter, trackRangesResult, commonRangesResult, takenCount, walkedResult}
 use Rattle.buffer_state.specs.Append.{Outcome, append}
 use Rattle.buffer_state.specs.Batch.{offeredIn, Batch, batch}
 use Rattle.buffer_state.specs.Buffer.{Buffer, withFrames}
@@ -28,8 +28,9 @@ use Rattle.buffer_state.specs.Lent.{Lent, timesIn, tagsIn, lentOf, bufferIn, we
 use Rattle.buffer_state.specs.Ranges.{Range, trackRanges, commonRanges}
 use Rattle.buffer_state.specs.Refusals.{Result, refused, done, refusalNumber}
 use Rattle.buffer_state.specs.Remove.{remove}
-use Rattle.buffer_state.specs.Run.{Call, appendCall, removeCall, abortCall, modeCall, offsetCall, windowStartCall, windowEndCall, readCall, rangesCall, commonCall, batchCall, settings, ranges, byOutcome, bySetting, byRanges, byBatch, replyTo}
+use Rattle.buffer_state.specs.Run.{Call, appendCall, removeCall, abortCall, modeCall, offsetCall, windowStartCall, windowEndCall, readCall, rangesCall, commonCall, batchCall, walkedCall, settings, ranges, byOutcome, bySetting, byRanges, byBatch, byWalked, replyTo}
 use Rattle.buffer_state.specs.Settings.{aborted, modeSet, offsetSet, windowStartSet, windowEndSet, Reading, reading}
+use Rattle.buffer_state.specs.Walked.{walked}
 use Rattle.buffer_laws.proofs.AnswerLaws.{Leaves, LeavesBatch}
 use Rattle.buffer_laws.proofs.LentLaws.{lent-same, ill-formed-refused, on-well-formed}
 use Rattle.buffer_laws.proofs.SettingLaws.{IfDone, Set, aborted-good, aborted-untouched, mode-good, mode-untouched, offset-set, window-start-set, window-end-set}
@@ -135,6 +136,27 @@ module _ (s : Lent) (lent : List (List ℤ)) where
   unfolding commonRangesResult replyTo
   common-reply n = spanned-reply (commonCall n) (commonRanges n) (λ b. refl)
 
+-- ---- a walk
+
+module _ (s : Lent) where
+  abbrev WalkedBy : Result ℕ → Replied → Type 0
+  WalkedBy x r = Quiet r (countStep (takenCount x) (s .head)) (s .times) (s .tags)
+
+  walked-of : formed s ≡ true → (x : Result ℕ) → WalkedBy x (laidReply (byWalked (bufferIn s) x))
+  walked-of w (refused why) ls rs = record { step = ap (plainStep (refusalNumber why) 0) (left-head s w); times = left-times s w; tags = left-tags s w; fates = refl; ranges = refl }
+  walked-of w (done n) ls rs = record { step = ap (plainStep 0 n) (left-head s w); times = left-times s w; tags = left-tags s w; fates = refl; ranges = refl }
+
+  walked-reply : (room track : ℕ) → WalkedBy (walkedResult room track (s .head) (s .times) (s .tags)) (replyOn (walkedCall room track) s)
+  unfolding walkedResult replyTo
+  walked-reply room track =
+      on-reply (WalkedBy (on (walked room track) s)) (walkedCall room track) s
+      (λ w. rw (on-well-formed (walked room track) (s .head) (s .times) (s .tags) w) (walked-of w (walked room track (bufferIn s))))
+      (λ w. rw (ill-formed-refused (walked room track) (s .head) (s .times) (s .tags) w) (λ ls rs. record { step = refl; times = refl; tags = refl; fates = refl; ranges = refl }))
+
+  pub walked-quiet : (room track : ℕ) (r : Count) (t : Step) → t ≡ countStep r (s .head) → r ≡ takenCount (walkedResult room track (s .head) (s .times) (s .tags))
+      → Quiet (replyOn (walkedCall room track) s) t (s .times) (s .tags)
+  walked-quiet room track r t told h = rw (told, h) (walked-reply room track)
+
 -- ---- abort, the setters and a reading
 
 module _ (s : Lent) where
@@ -238,6 +260,13 @@ module _ (s : Lent) (flag : ℕ) (x : Float) (r : Changed) where
 
 -- ---- any call
 
+-- a kind above that of a batch is a walk
+pub walk-call : (row : List ℕ) (stamps : List ℤ) (seconds : List Float) (frames : List (List ℤ)) (lines places : ℕ) → 10 < getD row 0 0
+    → callOf row stamps seconds frames lines places ≡ walkedCall places (getD row 1 0)
+walk-call row stamps seconds frames lines places k =
+    let kind = getD row 0 0 in
+    rw (le-ltb kind 2 (omega arith), le-ltb kind 7 (omega arith), ne-eqb kind 7 (λ e. omega arith), le-ltb kind 10 (omega arith), ne-eqb kind 10 (λ e. omega arith))
+
 module _ (s : Lent) (row : List ℕ) (stamps : List ℤ) (seconds : List Float) (frames : List (List ℤ)) (lines₀ lines : List (List ℕ)) (spans₀ spans : List (List ℤ)) where
   abbrev kind : ℕ
   kind = getD row 0 0
@@ -258,11 +287,14 @@ module _ (s : Lent) (row : List ℕ) (stamps : List ℤ) (seconds : List Float) 
       → Makes t (s .times) (s .tags) lines₀ spans₀
   made-reading r t k e f = rw (k, f, e) (read-reply s lines₀ spans₀)
 
-  module _ (k : 7 ≤ kind) (l : kind ≡ 7 → ⊥) where
-    pub made-ranges : (t : Step) → kind < 10
-        → Spanned (replyOn (rangesCallOf row (length spans₀)) s) t (s .times) (s .tags) spans₀ spans → Makes t (s .times) (s .tags) lines₀ spans
-    made-ranges t m h = rw (le-ltb kind 2 (omega arith), le-ltb kind 7 k, ne-eqb kind 7 l, lt-ltb kind 10 m) (h lines₀)
+  pub made-ranges : (t : Step) → 7 ≤ kind → (kind ≡ 7 → ⊥) → kind < 10
+      → Spanned (replyOn (rangesCallOf row (length spans₀)) s) t (s .times) (s .tags) spans₀ spans → Makes t (s .times) (s .tags) lines₀ spans
+  made-ranges t k l m h = rw (le-ltb kind 2 (omega arith), le-ltb kind 7 k, ne-eqb kind 7 l, lt-ltb kind 10 m) (h lines₀)
 
-    pub made-batch : (t : Step) (ts : List (List ℤ)) (gs : List (List ℕ)) → 10 ≤ kind
-        → Lined (replyOn (batchCall (length lines₀) (map offeredIn frames)) s) t ts gs lines₀ lines → Makes t ts gs lines spans₀
-    made-batch t ts gs m h = rw (le-ltb kind 2 (omega arith), le-ltb kind 7 k, ne-eqb kind 7 l, le-ltb kind 10 m) (h spans₀)
+  pub made-batch : (t : Step) (ts : List (List ℤ)) (gs : List (List ℕ)) → kind ≡ 10
+      → Lined (replyOn (batchCall (length lines₀) (map offeredIn frames)) s) t ts gs lines₀ lines → Makes t ts gs lines spans₀
+  made-batch t ts gs k h = rw k (h spans₀)
+
+  pub made-walk : (t : Step) → 10 ≤ kind → (kind ≡ 10 → ⊥)
+      → Quiet (replyOn (walkedCall (length spans₀) (getD row 1 0)) s) t (s .times) (s .tags) → Makes t (s .times) (s .tags) lines₀ spans₀
+  made-walk t k l h = rw (walk-call row stamps seconds frames (length lines₀) (length spans₀) (omega (arith, l))) (h lines₀ spans₀)

@@ -23,7 +23,7 @@ use Rattle.buffer_state.specs.Answers.{written, laid}
 use Rattle.buffer_state.specs.Lent.{Lent, lentOf, bufferIn, wellFormedAt}
 use Rattle.buffer_state.specs.Ranges.{Range}
 use Rattle.buffer_state.specs.Refusals.{Result, refused, done, refusalNumber, stopNumber}
-use Rattle.buffer_state.specs.Run.{Call, Answer, ok, fates, settings, ranges, accepted, Reply, replyTo, linesIn, acceptedIn}
+use Rattle.buffer_state.specs.Run.{Call, Answer, ok, fates, settings, ranges, accepted, taken, Reply, replyTo, linesIn, acceptedIn}
 use Rattle.call_rows.specs.declared.Step.{Step}
 
 abbrev pub lent : Head → List (List ℤ) → List (List ℕ) → Lent
@@ -58,7 +58,7 @@ abbrev pub doublesWith : WindowEnd → ℕ
 doublesWith Unbounded = 2
 doublesWith (At x) = 3
 
--- how many lines or ranges it has; of a reading, how many doubles: 2 where there is no window end
+-- how many lines or ranges it has; of a reading, how many doubles: 2 where there is no window end; of a walk, how many frames it took
 abbrev pub sizeOf : Result Answer → ℕ
 sizeOf (refused why) = 0
 sizeOf (done ok) = 0
@@ -66,6 +66,7 @@ sizeOf (done (fates ls)) = length ls
 sizeOf (done (settings r)) = doublesWith (r .end)
 sizeOf (done (ranges rs)) = length rs
 sizeOf (done (accepted n stop ls)) = length ls
+sizeOf (done (taken n)) = n
 
 -- what stopped a batch, as its number
 abbrev pub stopIn : Result Answer → ℕ
@@ -75,6 +76,7 @@ stopIn (done (fates ls)) = 0
 stopIn (done (settings r)) = 0
 stopIn (done (ranges rs)) = 0
 stopIn (done (accepted n stop ls)) = stopNumber stop
+stopIn (done (taken n)) = 0
 
 abbrev pub noDoubles : List Float
 noDoubles = zeroSeconds ∷ zeroSeconds ∷ zeroSeconds ∷ []
@@ -87,6 +89,7 @@ doublesIn (done (fates ls)) = noDoubles
 doublesIn (done (settings r)) = r .offset ∷ r .start ∷ endOf (r .end) ∷ []
 doublesIn (done (ranges rs)) = noDoubles
 doublesIn (done (accepted n stop ls)) = noDoubles
+doublesIn (done (taken n)) = noDoubles
 
 abbrev pub stepOf : Replied → Step
 stepOf r = record {
@@ -107,6 +110,7 @@ rangesIn (done (fates ls)) = []
 rangesIn (done (settings r)) = []
 rangesIn (done (ranges rs)) = rs
 rangesIn (done (accepted n stop ls)) = []
+rangesIn (done (taken n)) = []
 
 -- its lines, then what the list held before
 abbrev pub fatesAfter : Result Answer → List (List ℕ) → List (List ℕ)

@@ -16,11 +16,12 @@ ghost use mathlib.Core.List.{map};
 ghost use lib.ListN.{length};
 ghost use Rattle.buffer_state.specs.Batch.{offeredIn};
 ghost use Rattle.buffer_state.specs.Refusals.{refusalNumber, stopNumber};
-ghost use Rattle.buffer_state.specs.Run.{batchCall};
+ghost use Rattle.buffer_state.specs.Run.{batchCall, walkedCall};
 ghost use Rattle.call_rows.specs.Encoded.{modeOf, offeredOf, linesCall, settingCall, rangesCallOf, callOf};
 ghost use Rattle.call_rows.specs.Replies.{lent, replyOn, Stepped, Lined, Spanned, Quiet, stepWith, plainStep, changeStep, countStep, readStep, acceptedStep};
 
-// The kinds of call. Up to REMOVE they are lent a fate list, from ABORT to READ none, the two reports a range list, a batch a fate list.
+// The kinds of call. Up to REMOVE they are lent a fate list, from ABORT to READ none, the two reports a range list, a batch a fate list. A
+// walk is told how many places a range list has.
 pub const APPEND: u32 = 0;
 
 pub const REMOVE: u32 = 1;
@@ -43,8 +44,10 @@ pub const COMMON_RANGES: u32 = 9;
 
 pub const BATCH: u32 = 10;
 
-// What one call gave: its refusal number or 0; how many lines, ranges or doubles; of a batch, how many frames were accepted and the number
-// of the refusal that stopped it or 0; the doubles of a reading; the head.
+pub const WALKED: u32 = 11;
+
+// What one call gave: its refusal number or 0; how many lines, ranges or doubles, or frames that a walk took; of a batch, how many frames
+// were accepted and the number of the refusal that stopped it or 0; the doubles of a reading; the head.
 pub struct Step {
     pub refusal: usize,
     pub count: usize,
@@ -248,7 +251,15 @@ fn batch_step(
     accepted_step(answer, k)
 }
 
-// One call on any head and arrays: what it is, in numbers, and the lists lent to it. A kind above BATCH is taken for that one; `frames` are
+// How many frames the walk of a track's report takes where so many places are lent, of a list that it does not see.
+pub fn walked_step(h: Head, track: u32, times: &Times, tags: &Tags, room: usize) -> Step
+    ensures { λ r. ⌜ Quiet (replyOn (walkedCall room track) (lent h (now (times .entry)) (now (tags .entry)))) r (now (times .entry)) (now (tags .entry)) ⌝ }
+{
+    let a = ranges::walked(h, times, tags, track, room);
+    count_step(a, h)
+}
+
+// One call on any head and arrays: what it is, in numbers, and the lists lent to it. A kind above WALKED is taken for that one; `frames` are
 // those of a batch.
 pub fn make_call(
     h: Head,
@@ -279,5 +290,8 @@ pub fn make_call(
     if kind < BATCH {
         return ranges_step(h, row, times, tags, list);
     }
-    batch_step(h, frames, times, tags, fates)
+    if kind == BATCH {
+        return batch_step(h, frames, times, tags, fates);
+    }
+    walked_step(h, row[1], times, tags, list.len())
 }

@@ -32,7 +32,7 @@ use Rattle.galumper.specs.declared.FlatTrack.{FlatTrack}
 
 -- its number, which the header has too
 abbrev pub abi : ℕ
-abi = 4
+abi = 5
 
 -- the bytes of a head, and of 1,024 rows of two numbers of 8 bytes and four of 4
 abbrev pub bufferSize : ℕ

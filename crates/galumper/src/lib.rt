@@ -7,7 +7,7 @@ ghost use mathlib.Core.Path.{_≡_};
 ghost use mathlib.Core.Bool.{cond};
 ghost use mathlib.Core.List.{map};
 ghost use lib.ListN.{length};
-ghost use Rattle.buffer_state.specs.Answers.{timesCreated, tagsCreated, timesAfter, tagsAfter, listAfter, outcomeOf, abortAnswer, modeAnswer, offsetAnswer, windowStartAnswer, windowEndAnswer, settingsAnswer, createAnswer, rangeCount, rangesAfter, trackRangesResult, commonRangesResult};
+ghost use Rattle.buffer_state.specs.Answers.{timesCreated, tagsCreated, timesAfter, tagsAfter, listAfter, outcomeOf, abortAnswer, modeAnswer, offsetAnswer, windowStartAnswer, windowEndAnswer, settingsAnswer, createAnswer, rangeCount, rangesAfter, trackRangesResult, commonRangesResult, takenCount, walkedResult};
 ghost use Rattle.buffer_state.specs.Refusals.{refusalNumber};
 ghost use Rattle.buffer_state.specs.declared.Mode.the-variants.{Segments, Sequence};
 ghost use Rattle.buffer_state.specs.Settings.{create};
@@ -101,7 +101,7 @@ pub struct FlatHead {
     pub settings: FlatSettings,
 }
 
-// What a call answers: its refusal number (0: done), and how many fate lines, ranges or frames it wrote.
+// What a call answers: its refusal number (0: done), and how many fate lines, ranges or frames it wrote, or frames that a walk took.
 #[repr(C)]
 pub struct FlatAnswer {
     pub refusal: u32,
@@ -588,7 +588,7 @@ fn reading_out(answer: Read) -> Reading
 pub extern "C" fn galumper_abi() -> u32
     ensures { λ r. ⌜ r ≡ abi ⌝ }
 {
-    4
+    5
 }
 
 // The bytes of a buffer: a head and its arrays.
@@ -799,6 +799,21 @@ pub extern "C" fn galumper_lent_common_ranges(
 {
     let h = head_in(c);
     report_out(ranges::common_ranges(h, times, tags, list))
+}
+
+// How many frames the walk of a track's ranges takes where so many places are lent, also where these are too few for the ranges.
+#[no_mangle]
+pub extern "C" fn galumper_lent_walked(
+    c: FlatHead,
+    times: &Times,
+    tags: &Tags,
+    track: u32,
+    room: usize,
+) -> FlatAnswer
+    ensures { λ r. ⌜ r ≡ reportOut (takenCount (walkedResult room track (headIn c) (now (times .entry)) (now (tags .entry)))) ⌝ }
+{
+    let h = head_in(c);
+    report_out(ranges::walked(h, times, tags, track, room))
 }
 
 // The frames of one track in a segment, each with its size, as a row of numbers: track, presentation and decode timestamp, duration,

@@ -21,13 +21,13 @@ use Rattle.buffer_state.specs.declared.Counted.{Counted}
 use Rattle.buffer_state.specs.declared.Mode.the-variants.{Segments, Sequence}
 use Rattle.buffer_state.specs.declared.Read.{Read}
 use Rattle.buffer_state.specs.declared.Read.the-variants as Read
-use Rattle.buffer_state.specs.Answers.{changed, zeroHead, createAnswer, timesCreated, tagsCreated, timesAfter, tagsAfter, listAfter, outcomeOf, abortAnswer, modeAnswer, offsetAnswer, windowStartAnswer, windowEndAnswer, settingsAnswer, rangeCount, rangesAfter, trackRangesResult, commonRangesResult}
+use Rattle.buffer_state.specs.Answers.{changed, zeroHead, createAnswer, timesCreated, tagsCreated, timesAfter, tagsAfter, listAfter, outcomeOf, abortAnswer, modeAnswer, offsetAnswer, windowStartAnswer, windowEndAnswer, settingsAnswer, rangeCount, rangesAfter, trackRangesResult, commonRangesResult, takenCount, walkedResult}
 use Rattle.buffer_state.specs.Buffer.{Buffer, fresh}
 use Rattle.buffer_state.specs.Lent.{Lent}
 use Rattle.buffer_state.specs.Refusals.{Result, done}
 use Rattle.buffer_state.specs.Run.{Answer, Entry}
 use Rattle.buffer_state.specs.Settings.{create}
-use Rattle.account.specs.Made.{Listed, Joined, linesOf, joinedOf, rangesOf, changeOf, readingOf, resultOf, entries}
+use Rattle.account.specs.Made.{Listed, Joined, linesOf, joinedOf, rangesOf, changeOf, readingOf, walkedOf, resultOf, entries}
 use Rattle.account.specs.History as Account
 use Rattle.account.proofs.Claim.{every-history, lend, two, three, four}
 use Rattle.galumper.specs.declared.Answered.{Answered}
@@ -37,9 +37,9 @@ use Rattle.galumper.specs.declared.FlatHead.{FlatHead}
 use Rattle.galumper.specs.declared.FlatOffered.{FlatOffered}
 use Rattle.galumper.specs.Calls.{outcomeOut, handedBack, createdOut, appendFlat, removeFlat, batchFlat, batchOut, reportOut, readingOut}
 use Rattle.galumper.specs.Flat.{headIn, headOut, offeredIn}
-use Rattle.galumper_account.specs.Told.{Ask, append, remove, abort, setSegments, setSequence, setOffset, setWindowStart, setWindowEnd, readSettings, trackRanges, commonRanges, batch, Got, Told, numbersIn, countOf, acceptedOf, answerOf, readOf, given, back, made}
-use Rattle.galumper_account.specs.History.{Held, lentIn, From, none, by-append, by-remove, by-abort, by-segments, by-sequence, by-offset, by-window-start, by-window-end, by-reading, by-track-ranges, by-common-ranges, by-batch, History, from, resultNumbers, Claim, Happens}
-use Rattle.galumper_account.proofs.ReadLaws.{countNumber, acceptedNumbers, answerNumber, readNumber, Reports, report-read, Reads, reading-read, Sound, Counts, Accepts, Changes}
+use Rattle.galumper_account.specs.Told.{Ask, append, remove, abort, setSegments, setSequence, setOffset, setWindowStart, setWindowEnd, readSettings, trackRanges, commonRanges, batch, walked, Got, Told, numbersIn, countOf, acceptedOf, answerOf, readOf, given, back, made}
+use Rattle.galumper_account.specs.History.{Held, lentIn, From, none, by-append, by-remove, by-abort, by-segments, by-sequence, by-offset, by-window-start, by-window-end, by-reading, by-track-ranges, by-common-ranges, by-batch, by-walk, History, from, resultNumbers, Claim, Happens}
+use Rattle.galumper_account.proofs.ReadLaws.{countNumber, acceptedNumbers, takenNumbers, answerNumber, readNumber, Reports, report-read, Reads, reading-read, Sound, Counts, Accepts, Changes}
 use Rattle.galumper_account.proofs.StepLaws.{creation, batching, appending, removing, aborting, mode-setting, offset-setting, window-start-setting, window-end-setting}
 use Rattle.galumper.proofs.galumper_lent_create.Reads as Create
 use Rattle.galumper.proofs.galumper_lent_append.Reads as Append
@@ -54,6 +54,7 @@ use Rattle.galumper.proofs.galumper_lent_set_window_end.Reads as SetWindowEnd
 use Rattle.galumper.proofs.galumper_lent_read_settings.Reads as ReadSettings
 use Rattle.galumper.proofs.galumper_lent_track_ranges.Reads as TrackRanges
 use Rattle.galumper.proofs.galumper_lent_common_ranges.Reads as CommonRanges
+use Rattle.galumper.proofs.galumper_lent_walked.Reads as Walked
 use Rattle.galumper.proofs.galumper_lent_create.Statement as CreateSays
 use Rattle.galumper.proofs.galumper_lent_append.Statement as AppendSays
 use Rattle.galumper.proofs.galumper_lent_append_batch.Statement as BatchSays
@@ -67,6 +68,7 @@ use Rattle.galumper.proofs.galumper_lent_set_window_end.Statement as SetWindowE
 use Rattle.galumper.proofs.galumper_lent_read_settings.Statement as ReadSettingsSays
 use Rattle.galumper.proofs.galumper_lent_track_ranges.Statement as TrackRangesSays
 use Rattle.galumper.proofs.galumper_lent_common_ranges.Statement as CommonRangesSays
+use Rattle.galumper.proofs.galumper_lent_walked.Statement as WalkedSays
 use Rattle.galumper.proofs.galumper_lent_create.Met as CreateMet
 use Rattle.galumper.proofs.galumper_lent_append.Met as AppendMet
 use Rattle.galumper.proofs.galumper_lent_append_batch.Met as BatchMet
@@ -80,10 +82,11 @@ use Rattle.galumper.proofs.galumper_lent_set_window_end.Met as SetWindowEndMet
 use Rattle.galumper.proofs.galumper_lent_read_settings.Met as ReadSettingsMet
 use Rattle.galumper.proofs.galumper_lent_track_ranges.Met as TrackRangesMet
 use Rattle.galumper.proofs.galumper_lent_common_ranges.Met as CommonRangesMet
+use Rattle.galumper.proofs.galumper_lent_walked.Met as WalkedMet
 
 -- ---- the numbers of an answer are those of its result
 
--- those of a call that is no batch
+-- those of a call that is no batch and no walk
 abbrev plain : ℕ → List ℕ
 plain n = n ∷ 0 ∷ []
 
@@ -98,6 +101,10 @@ joined-numbers l (Accepted.Refused why) = refl
 ranges-number : (l : Listed (List ℤ)) (n : Count) → resultNumbers (rangesOf l n) ≡ plain (countNumber n)
 ranges-number l (Count.Done n) = refl
 ranges-number l (Count.Refused why) = refl
+
+walked-numbers : (n : Count) → resultNumbers (walkedOf n) ≡ takenNumbers n
+walked-numbers (Count.Done n) = refl
+walked-numbers (Count.Refused why) = refl
 
 change-number : (a : Code.Answer) → resultNumbers (changeOf a) ≡ plain (answerNumber a)
 change-number Said.Done = refl
@@ -141,6 +148,9 @@ accepting r l o = o .numbers ∙ sym (ap (λ (n : Batched). acceptedNumbers (n .
 
 reporting : {n : Count} (r : FlatAnswer) (l : Listed (List ℤ)) → Reports n r → plain (r .refusal) ≡ resultNumbers (rangesOf l (countOf r))
 reporting r l o = ap plain (o .number ∙ sym (ap countNumber (o .same))) ∙ sym (ranges-number l (countOf r))
+
+walking : {n : Count} (r : FlatAnswer) → Reports n r → r .refusal ∷ r .count ∷ [] ≡ resultNumbers (walkedOf (countOf r))
+walking r o = o .numbers ∙ sym (ap takenNumbers (o .same)) ∙ sym (walked-numbers (countOf r))
 
 changing : {n : Changed} (r : Answered) → Changes n r → plain (r .answer .refusal) ≡ resultNumbers (changeOf (answerOf (r .answer)))
 changing r o = ap plain (o .number ∙ sym (ap (λ (n : Changed). answerNumber (n .answer)) (o .same))) ∙ sym (change-number (answerOf (r .answer)))
@@ -209,6 +219,12 @@ follows {c} s (by-batch rows times tags lent r ts gs after κs h k) =
     one (accepting r (record { answer = acceptedOf (r .answer); after = after }) o)
     (λ rest. Account.by-batch rows times tags lent (record { answer = acceptedOf (r .answer); head = headIn (r .head) }) ts gs after κs (o .same, h .1) rest)
     (follows (o .sound) k)
+follows {c} s (by-walk track room times tags r κs h k) =
+    let n = takenCount (walkedResult room track (headIn (c .head)) (c .times) (c .tags)) in
+    let o : Reports n r = rw h (report-read n) in
+    one (walking r o)
+    (λ rest. Account.by-walk track room times tags (countOf r) κs (o .same) rest)
+    (follows s k)
 
 -- ---- THE THEOREM
 
@@ -296,6 +312,9 @@ onward c (batch rows l ∷ asks) =
     let r = batchOut (c .head) x in
     let d : Held = record { head = r .head; times = timesAfter o (c .times); tags = tagsAfter o (c .tags) } in
     first {d = d} (λ ms t k. by-batch (lend rows) (lend (c .times)) (lend (c .tags)) (lend l) r (d .times) (d .tags) (listAfter o l) four (refl, (refl, (refl, refl))) k) (onward d asks)
+onward c (walked track room ∷ asks) =
+    let r = reportOut (takenCount (walkedResult room track (headIn (c .head)) (c .times) (c .tags))) in
+    first {d = c} (λ ms t k. by-walk track room (lend (c .times)) (lend (c .tags)) r two refl k) (onward c asks)
 
 -- whatever the arrays held before the creation
 pub some-exported-history : (kinds : List ℕ) (ts : List (List ℤ)) (gs : List (List ℕ)) (asks : List Ask) → create kinds ≡ done (fresh kinds) → Happens kinds asks
@@ -314,7 +333,7 @@ some-exported-history kinds ts gs asks made =
 -- ---- it has no hidden door
 
 -- no exported call asks anything of its caller
-pub exported-free : (κs : Lfts 2) (λs : Lfts 3) (μs : Lfts 4) (c : FlatHead) (f : FlatOffered) (x y : Float) (track : ℕ) (kinds : RefT (List ℕ))
+pub exported-free : (κs : Lfts 2) (λs : Lfts 3) (μs : Lfts 4) (c : FlatHead) (f : FlatOffered) (x y : Float) (track room : ℕ) (kinds : RefT (List ℕ))
     (times : RefT (List (List ℤ))) (tags : RefT (List (List ℕ))) (fates : RefT (List (List ℕ))) (list rows : RefT (List (List ℤ)))
     → Create.Asked λs (kinds, (times, (tags, tt))) × Append.Asked λs (c, (f, (times, (tags, (fates, tt)))))
     × Remove.Asked λs (c, (x, (y, (times, (tags, (fates, tt)))))) × Abort.Asked κs (c, (times, (tags, tt)))
@@ -322,13 +341,13 @@ pub exported-free : (κs : Lfts 2) (λs : Lfts 3) (μs : Lfts 4) (c : FlatHead) 
     × SetOffset.Asked κs (c, (times, (tags, (x, tt)))) × SetWindowStart.Asked κs (c, (times, (tags, (x, tt))))
     × SetWindowEnd.Asked κs (c, (times, (tags, (x, tt)))) × ReadSettings.Asked κs (c, (times, (tags, tt)))
     × TrackRanges.Asked λs (c, (times, (tags, (track, (list, tt))))) × CommonRanges.Asked λs (c, (times, (tags, (list, tt))))
-    × Batch.Asked μs (c, (rows, (times, (tags, (fates, tt)))))
-exported-free κs λs μs c f x y track kinds times tags fates list rows = (tt, tt, tt, tt, tt, tt, tt, tt, tt, tt, tt, tt, tt)
+    × Batch.Asked μs (c, (rows, (times, (tags, (fates, tt))))) × Walked.Asked κs (c, (times, (tags, (track, (room, tt)))))
+exported-free κs λs μs c f x y track room kinds times tags fates list rows = (tt, tt, tt, tt, tt, tt, tt, tt, tt, tt, tt, tt, tt, tt)
 
 -- the running code meets the contracts of which a history is made
 pub exported-code-meets : {M : Type 1}
     → CreateSays.statement M × AppendSays.statement M × RemoveSays.statement M × AbortSays.statement M
     × SetSegmentsSays.statement M × SetSequenceSays.statement M × SetOffsetSays.statement M × SetWindowStartSays.statement M
     × SetWindowEndSays.statement M × ReadSettingsSays.statement M × TrackRangesSays.statement M × CommonRangesSays.statement M
-    × BatchSays.statement M
-exported-code-meets = (CreateMet.met, AppendMet.met, RemoveMet.met, AbortMet.met, SetSegmentsMet.met, SetSequenceMet.met, SetOffsetMet.met, SetWindowStartMet.met, SetWindowEndMet.met, ReadSettingsMet.met, TrackRangesMet.met, CommonRangesMet.met, BatchMet.met)
+    × BatchSays.statement M × WalkedSays.statement M
+exported-code-meets = (CreateMet.met, AppendMet.met, RemoveMet.met, AbortMet.met, SetSegmentsMet.met, SetSequenceMet.met, SetOffsetMet.met, SetWindowStartMet.met, SetWindowEndMet.met, ReadSettingsMet.met, TrackRangesMet.met, CommonRangesMet.met, BatchMet.met, WalkedMet.met)

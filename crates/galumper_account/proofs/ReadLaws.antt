@@ -85,6 +85,11 @@ abbrev pub acceptedNumbers : Accepted → List ℕ
 acceptedNumbers (Accepted.Done n lines stop) = 0 ∷ stopNumber stop ∷ []
 acceptedNumbers (Accepted.Refused why) = refusalNumber why ∷ 0 ∷ []
 
+-- both numbers of a walk's answer
+abbrev pub takenNumbers : Count → List ℕ
+takenNumbers (Count.Done n) = 0 ∷ n ∷ []
+takenNumbers (Count.Refused why) = refusalNumber why ∷ 0 ∷ []
+
 abbrev pub answerNumber : Answer → ℕ
 answerNumber Answer.Done = 0
 answerNumber (Answer.Refused why) = refusalNumber why
@@ -94,15 +99,16 @@ readNumber (Read.Bounded offset start end) = 0
 readNumber (Read.Unbounded offset start) = 0
 readNumber (Read.Refused why) = refusalNumber why
 
--- ---- a report and a reading
+-- ---- a report, a walk and a reading
 
 pub record Reports (n : Count) (r : FlatAnswer) : Type 0 where
   pub same : countOf r ≡ n
   pub number : r .refusal ≡ countNumber n
+  pub numbers : r .refusal ∷ r .count ∷ [] ≡ takenNumbers n
 
 pub report-read : (n : Count) → Reports n (reportOut n)
-report-read (Count.Done n) = record { same = refl; number = refl }
-report-read (Count.Refused why) = record { same = refused-back (Count.Done 0) Count.Refused why; number = refl }
+report-read (Count.Done n) = record { same = refl; number = refl; numbers = refl }
+report-read (Count.Refused why) = record { same = refused-back (Count.Done 0) Count.Refused why; number = refl; numbers = refl }
 
 pub record Reads (n : Read) (r : Reading) : Type 0 where
   pub same : readOf r ≡ n

@@ -29,8 +29,8 @@ use Rattle.galumper.specs.Flat.{offeredIn}
 
 -- ---- a call, and what it answers
 
--- Every argument except the buffer; of a lent list, what it holds. A double that is kept is one of the format: a program can pass no
--- other.
+-- Every argument except the buffer; of a lent list, what it holds; of a walk, the track and how many places it has room for. A double that
+-- is kept is one of the format: a program can pass no other.
 pub data Ask : Type 0 where
   append : FlatOffered → List (List ℕ) → Ask
   remove : Float → Float → List (List ℕ) → Ask
@@ -44,6 +44,7 @@ pub data Ask : Type 0 where
   trackRanges : ℕ → List (List ℤ) → Ask
   commonRanges : List (List ℤ) → Ask
   batch : List (List ℤ) → List (List ℕ) → Ask
+  walked : ℕ → ℕ → Ask
 
 -- an answer that counts lines or ranges, and the lent list afterwards
 pub record Filled (A : Type 0) : Type 0 where
@@ -68,12 +69,14 @@ Got readSettings = Reading
 Got (trackRanges track lent) = Filled (List ℤ)
 Got (commonRanges lent) = Filled (List ℤ)
 Got (batch rows lent) = Joined
+Got (walked track room) = FlatAnswer
 
 pub record Told : Type 0 where
   pub ask : Ask
   pub got : Got ask
 
--- the numbers that a call answered: of its refusal, 0 where it was done; of the refusal that stopped a batch, 0 where none did
+-- The numbers that a call answered: of its refusal, 0 where it was done; of the refusal that stopped a batch, 0 where none did, or how many
+-- frames a walk took.
 abbrev pub numbersIn : (a : Ask) → Got a → List ℕ
 numbersIn (append f lent) g = g .answer .refusal ∷ 0 ∷ []
 numbersIn (remove start end lent) g = g .answer .refusal ∷ 0 ∷ []
@@ -87,6 +90,7 @@ numbersIn readSettings g = g .refusal ∷ 0 ∷ []
 numbersIn (trackRanges track lent) g = g .answer .refusal ∷ 0 ∷ []
 numbersIn (commonRanges lent) g = g .answer .refusal ∷ 0 ∷ []
 numbersIn (batch rows lent) g = g .answer .refusal ∷ g .answer .stop ∷ []
+numbersIn (walked track room) g = g .refusal ∷ g .count ∷ []
 
 -- ---- the same in the account's words
 
@@ -127,6 +131,7 @@ given readSettings = Account.readSettings
 given (trackRanges track lent) = Account.trackRanges track lent
 given (commonRanges lent) = Account.commonRanges lent
 given (batch rows lent) = Account.batch rows lent
+given (walked track room) = Account.walked track room
 
 abbrev pub back : (a : Ask) → Got a → Back (given a)
 back (append f lent) g = record { answer = countOf (g .answer); after = g .after }
@@ -141,6 +146,7 @@ back readSettings g = readOf g
 back (trackRanges track lent) g = record { answer = countOf (g .answer); after = g .after }
 back (commonRanges lent) g = record { answer = countOf (g .answer); after = g .after }
 back (batch rows lent) g = record { answer = acceptedOf (g .answer); after = g .after }
+back (walked track room) g = countOf g
 
 abbrev pub made : Told → Made
 made t = record { given = given (t .ask); back = back (t .ask) (t .got) }

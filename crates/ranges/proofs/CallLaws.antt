@@ -1,19 +1,23 @@
 -- What a report answers, by the tests in their order.
 use mathlib.Core.Path.{_≡_, sym, ap, _∙_}
-use mathlib.Core.Bool.{true, false}
+use mathlib.Core.Bool.{Bool, true, false, _&&_}
 use mathlib.Core.List.{List, _++_}
 use Prim.Native.Nat.{ℕ, _≤_, _<_}
+use lib.Dec.{leb}
 use lib.IntN.{ℤ}
 use lib.ListN.{length, take, drop}
-use borrow.Author.Tests.{le-leb, lt-leb, lt-ltb, le-ltb}
+use borrow.Author.Tests.{lt-ltb, le-ltb}
 use Rattle.buffer_state.specs.declared.Count.the-variants as Count
 use Rattle.buffer_state.specs.declared.Head.{Head}
 use Rattle.buffer_state.specs.declared.Refusal.{Refusal}
 use Rattle.buffer_state.specs.declared.Refusal.the-variants.{IllFormed, NoTrack, ShortList}
-use Rattle.buffer_state.specs.Answers.{laid, rangeCount, rangesAfter, trackRangesResult, commonRangesResult}
-use Rattle.buffer_state.specs.Lent.{wellFormedAt}
+use Rattle.buffer_state.specs.Answers.{laid, rangeCount, rangesAfter, trackRangesResult, commonRangesResult, walkedResult}
+use Rattle.buffer_state.specs.Buffer.{hasTrack}
+use Rattle.buffer_state.specs.Layout.{bufferOf}
+use Rattle.buffer_state.specs.Lent.{stateAt, wellFormedAt}
 use Rattle.buffer_state.specs.Ranges.{Range, rangesOf, commonRangesOf, trackRanges, commonRanges}
 use Rattle.buffer_state.specs.Refusals.{Result, refused, done}
+use Rattle.buffer_state.specs.Walked.{presented, takenOf, walked}
 use Rattle.buffer_laws.proofs.LentLaws.{ill-formed-refused, on-well-formed}
 use Rattle.ranges.specs.Bars.{stored, Shows, Reported}
 use Rattle.ranges.proofs.StoresLaws.{track-count}
@@ -34,33 +38,43 @@ done-reported {rs = rs} {n = n} after before e s l = record {
       ∙ sym (ap (λ (r : Result (List Range)). rangesAfter r before) e);
 }
 
--- ---- a track's ranges
+-- ---- a track's ranges, and how many frames their walk takes
 
 module _ (lent track : ℕ) (h : Head) (ts : List (List ℤ)) (gs : List (List ℕ)) where
   pub track-ill-formed : wellFormedAt h ts gs ≡ false → trackRangesResult lent track h ts gs ≡ refused IllFormed
   unfolding trackRangesResult
   track-ill-formed e = ill-formed-refused (trackRanges lent track) h ts gs e
 
-  module _ (w : wellFormedAt h ts gs ≡ true) where
-    pub track-under-one : track < 1 → trackRangesResult lent track h ts gs ≡ refused NoTrack
-    unfolding trackRangesResult trackRanges
-    track-under-one k = on-well-formed (trackRanges lent track) h ts gs w ∙ rw (lt-leb 1 track k)
+  pub walked-ill-formed : wellFormedAt h ts gs ≡ false → walkedResult lent track h ts gs ≡ refused IllFormed
+  unfolding walkedResult
+  walked-ill-formed e = ill-formed-refused (walked lent track) h ts gs e
 
-    pub track-past-last : 1 ≤ track → h .ntracks < track → trackRangesResult lent track h ts gs ≡ refused NoTrack
-    unfolding trackRangesResult trackRanges
-    track-past-last j k = on-well-formed (trackRanges lent track) h ts gs w ∙ rw (le-leb 1 track j, track-count h ts gs w, lt-leb track (h .ntracks) k)
+  module _ (w : wellFormedAt h ts gs ≡ true) (known : Bool) (e : known ≡ (leb 1 track && leb track (h .ntracks))) where
+    has-track : hasTrack (bufferOf (stateAt h ts gs)) track ≡ known
+    has-track = rw (track-count h ts gs w) (sym e)
 
-    module _ (j : 1 ≤ track) (k : track ≤ h .ntracks) where
+    module _ (k : known ≡ false) where
+      pub track-unknown : trackRangesResult lent track h ts gs ≡ refused NoTrack
+      unfolding trackRangesResult trackRanges
+      track-unknown = on-well-formed (trackRanges lent track) h ts gs w ∙ rw (has-track ∙ k)
+
+      pub walked-unknown : walkedResult lent track h ts gs ≡ refused NoTrack
+      unfolding walkedResult walked
+      walked-unknown = on-well-formed (walked lent track) h ts gs w ∙ rw (has-track ∙ k)
+
+    module _ (k : known ≡ true) where
       pub track-short : lent < length (rangesOf track (stored ts gs (h .nframes))) → trackRangesResult lent track h ts gs ≡ refused ShortList
       unfolding trackRangesResult trackRanges
-      track-short l =
-          on-well-formed (trackRanges lent track) h ts gs w ∙ rw (le-leb 1 track j, track-count h ts gs w, le-leb track (h .ntracks) k, lt-ltb _ _ l)
+      track-short l = on-well-formed (trackRanges lent track) h ts gs w ∙ rw (has-track ∙ k, lt-ltb _ _ l)
 
       pub track-reported : length (rangesOf track (stored ts gs (h .nframes))) ≤ lent
           → trackRangesResult lent track h ts gs ≡ done (rangesOf track (stored ts gs (h .nframes)))
       unfolding trackRangesResult trackRanges
-      track-reported l =
-          on-well-formed (trackRanges lent track) h ts gs w ∙ rw (le-leb 1 track j, track-count h ts gs w, le-leb track (h .ntracks) k, le-ltb _ _ l)
+      track-reported l = on-well-formed (trackRanges lent track) h ts gs w ∙ rw (has-track ∙ k, le-ltb _ _ l)
+
+      pub walked-done : walkedResult lent track h ts gs ≡ done (takenOf lent (presented track (stored ts gs (h .nframes))))
+      unfolding walkedResult walked
+      walked-done = on-well-formed (walked lent track) h ts gs w ∙ rw (has-track ∙ k)
 
 -- ---- the common ranges
 

@@ -1,29 +1,32 @@
 -- What a reader can cite of a report that is not refused: an instant is reported as held exactly when it is covered, neighbouring
--- ranges never touch, and an instant that is not covered parts the ranges around it.
+-- ranges never touch, and an instant that is not covered parts the ranges around it. And of the count of frames that a report's walk takes.
 use mathlib.Core.Path.{_≡_, refl, sym, ap, _∙_}
 use mathlib.Core.Bool.{Bool, true, false, not, _&&_, _||_}
 use mathlib.Core.List.{List, [], _∷_, _++_}
 use Prim.Native.Nat.{ℕ, zero, suc, _≤_}
 use native.Mathlib.Omega.{arith}
-use lib.Dec.{ltb, leb}
+use lib.Dec.{ltb, leb, eqb}
 use lib.IntN.{ℤ}
-use lib.ListN.{length, take, drop, length-map}
+use lib.ListN.{length, take, drop, length-map, drop-of-length-le}
 use lib.Seq.{take-at}
-use lib.Signed.{_<ℤ_}
+use lib.Signed.{ltZ, _<ℤ_}
 use borrow.Author.Tests.{leb-true}
 use Rattle.laws.proofs.BoolLaws.{split, both-ways, and-left, and-right, or-none-left, or-none-right}
 use Rattle.laws.proofs.IntLaws.{weaken, le-lt, lt-lt}
 use Rattle.buffer_state.specs.declared.Count.{Count}
 use Rattle.buffer_state.specs.declared.Count.the-variants as Count
+use Rattle.buffer_state.specs.declared.Frame.{Frame}
 use Rattle.buffer_state.specs.declared.Head.{Head}
 use Rattle.buffer_state.specs.declared.Refusal.{Refusal}
 use Rattle.buffer_state.specs.declared.Refusal.the-variants.{NoTrack, ShortList}
-use Rattle.buffer_state.specs.Answers.{rangeCount, rangesAfter, laid, trackRangesResult, commonRangesResult}
+use Rattle.buffer_state.specs.Answers.{rangeCount, rangesAfter, laid, trackRangesResult, commonRangesResult, takenCount, walkedResult}
 use Rattle.buffer_state.specs.Buffer.{Buffer, hasTrack}
 use Rattle.buffer_state.specs.Layout.{bufferOf}
 use Rattle.buffer_state.specs.Lent.{stateAt, wellFormedAt}
 use Rattle.buffer_state.specs.Ranges.{Range, liesIn, inRanges, rising, coveredOn, coveredOnAll, rangesOf, commonRangesOf, trackRanges, commonRanges}
 use Rattle.buffer_state.specs.Refusals.{Result, done, refuseIf}
+use Rattle.buffer_state.specs.Run.{count}
+use Rattle.buffer_state.specs.Walked.{walked}
 use Rattle.buffer_state.specs.WellFormed.{allOf, goodCount, goodTracks, goodBuffer}
 use Rattle.buffer_laws.proofs.GoodLaws.{good-facts}
 use Rattle.buffer_laws.proofs.LentLaws.{lent-good, on-well-formed}
@@ -34,8 +37,12 @@ use Rattle.buffer_laws.proofs.RisingLaws.{lies-from, lies-to, lies-between}
 use Rattle.buffer_laws.proofs.TestLaws.{all-none, all-more}
 use Rattle.ranges.specs.Bars.{Reported}
 use Rattle.ranges.specs.Read.{rangesIn}
+use Rattle.ranges.specs.Sweep.{sound, ownStretches}
 use Rattle.ranges.proofs.BarLaws.{laid-read}
-use Rattle.ranges.proofs.CallLaws.{track-ill-formed, common-ill-formed}
+use Rattle.ranges.proofs.CallLaws.{track-ill-formed, common-ill-formed, walked-ill-formed}
+use Rattle.ranges.proofs.OwnLaws.{own-count, own-length, presented-taken}
+use Rattle.ranges.proofs.StoresLaws.{well-formed-stores}
+use Rattle.ranges.proofs.TakenLaws.{takenBy}
 
 -- the first range, or the later ones
 first : (t : ℤ) (q : Range) (qs : List Range) → inRanges t (q ∷ qs) ≡ false → (liesIn t q || inRanges t qs) ≡ false
@@ -149,3 +156,41 @@ module _ (h : Head) (ts : List (List ℤ)) (gs : List (List ℕ)) where
 
     pub common-never-touch : rising (rangesIn (take n after)) ≡ true
     common-never-touch = ap rising common-read ∙ common-report-rises buffer (good-facts buffer (lent-good h ts gs common-well)) _
+
+  -- How many frames the walk of a report takes, where that is not refused; it is there also where the report is refused 10.
+  module _ (lent track : ℕ) (r : Count) (n : ℕ) (told : r ≡ takenCount (walkedResult lent track h ts gs)) (counted : r ≡ Count.Done n) where
+    walk-answered : takenCount (walkedResult lent track h ts gs) ≡ Count.Done n
+    walk-answered = sym told ∙ counted
+
+    walk-well : wellFormedAt h ts gs ≡ true
+    walk-well =
+        split (wellFormedAt h ts gs) (λ e. e)
+        (λ e. absurd (refusal-no-count (sym (ap takenCount (walked-ill-formed lent track h ts gs e)) ∙ walk-answered)))
+
+    walk-sound : allOf sound (buffer .frames) ≡ true
+    walk-sound = well-formed-stores h ts gs walk-well .each
+
+    done-walk : (a : Bool) (m : ℕ) → takenCount (refuseIf (not a) NoTrack (done m)) ≡ Count.Done n → n ≡ m
+    done-walk false m e = absurd (refusal-no-count e)
+    done-walk true m e = cc
+
+    walk-taken : n ≡ takenBy (drop lent (rangesOf track (buffer .frames))) (ownStretches track (buffer .frames))
+    unfolding walkedResult walked
+    walk-taken =
+        done-walk (hasTrack buffer track) _ (sym (ap takenCount (on-well-formed (walked lent track) h ts gs walk-well)) ∙ walk-answered)
+        ∙ presented-taken track (buffer .frames) walk-sound lent
+
+    -- All the track's, where there is a place for each range.
+    pub walked-whole : length (rangesOf track (buffer .frames)) ≤ lent → n ≡ count (λ (f : Frame). eqb (f .track) track) (buffer .frames)
+    unfolding takenBy
+    walked-whole k =
+        walk-taken ∙ ap (λ (rs : List Range). takenBy rs (ownStretches track (buffer .frames))) (drop-of-length-le (rangesOf track (buffer .frames)) {i = lent} k)
+        ∙ own-length track (buffer .frames)
+
+    -- Else those that are presented before the range too many, and its first.
+    pub walked-in-part : (q : Range) (qs : List Range) → drop lent (rangesOf track (buffer .frames)) ≡ q ∷ qs
+        → n ≡ suc (count (λ (f : Frame). eqb (f .track) track && ltZ (f .pts) (q .start)) (buffer .frames))
+    unfolding takenBy
+    walked-in-part q qs e =
+        walk-taken ∙ ap (λ (rs : List Range). takenBy rs (ownStretches track (buffer .frames))) e
+        ∙ ap suc (own-count track (λ (r : Range). ltZ (r .start) (q .start)) (buffer .frames))

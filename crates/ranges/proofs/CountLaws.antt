@@ -14,20 +14,16 @@ use Rattle.laws.proofs.BoolLaws.{split, by-test}
 use Rattle.buffer_state.specs.declared.Frame.{Frame}
 use Rattle.buffer_state.specs.Buffer.{endOf}
 use Rattle.buffer_state.specs.Ranges.{Range, joined, common, rangesOf, commonRangesOf}
+use Rattle.buffer_state.specs.Run.{total, count}
 use Rattle.buffer_laws.proofs.RangeLaws.{hull}
 use Rattle.ranges.specs.Bars.{Shows}
 
--- how many frames pass
-pub counted : (Frame → Bool) → List Frame → ℕ
-counted p [] = 0
-counted p (f ∷ fs) = cond (p f) 1 0 + counted p fs
-
 -- how many frames are on a track, and on tracks up to one
 abbrev onTrack : ℕ → List Frame → ℕ
-onTrack t = counted (λ f. eqb (f .track) t)
+onTrack t = count (λ (f : Frame). eqb (f .track) t)
 
 abbrev pub upTo : ℕ → List Frame → ℕ
-upTo t = counted (λ f. leb (f .track) t)
+upTo t = count (λ (f : Frame). leb (f .track) t)
 
 one-more : (x t : ℕ) → cond (leb x (t + 1)) 1 0 ≡ cond (leb x t) 1 0 + cond (eqb x (t + 1)) 1 0
 one-more x t =
@@ -40,15 +36,18 @@ one-more x t =
 
 -- each frame counts on one track
 up-next : (t : ℕ) (fs : List Frame) → upTo (t + 1) fs ≡ upTo t fs + onTrack (t + 1) fs
-unfolding counted
+unfolding count total
 up-next t [] = refl
 up-next t (f ∷ fs) = omega (arith, up-next t fs, one-more (f .track) t)
 
+counted-few : (p : Frame → Bool) (fs : List Frame) → count p fs ≤ length fs
+unfolding count total
+counted-few p [] = omega arith
+counted-few p (f ∷ fs) =
+    by-test (λ n. n + count p fs ≤ suc (length fs)) (p f) {x = 1} {y = 0} (λ _. omega (arith, counted-few p fs)) (λ _. omega (arith, counted-few p fs))
+
 pub up-all : (t : ℕ) (fs : List Frame) → upTo t fs ≤ length fs
-unfolding counted
-up-all t [] = omega arith
-up-all t (f ∷ fs) =
-    by-test (λ n. n + upTo t fs ≤ suc (length fs)) (leb (f .track) t) {x = 1} {y = 0} (λ _. omega (arith, up-all t fs)) (λ _. omega (arith, up-all t fs))
+up-all t = counted-few (λ (f : Frame). leb (f .track) t)
 
 -- ---- ranges and frames
 
@@ -66,9 +65,12 @@ if-few true r qs n h = omega (arith, joined-few r qs)
 if-few false r qs n h = omega arith
 
 ranges-few : (t : ℕ) (fs : List Frame) → length (rangesOf t fs) ≤ onTrack t fs
-unfolding rangesOf counted
+unfolding rangesOf count total
 ranges-few t [] = omega arith
 ranges-few t (f ∷ fs) = if-few (eqb (f .track) t) (record { start = f .pts; end = endOf f }) (rangesOf t fs) _ (ranges-few t fs)
+
+pub track-few : (t : ℕ) (fs : List Frame) → length (rangesOf t fs) ≤ length fs
+track-few t fs = omega (arith, ranges-few t fs, counted-few (λ (f : Frame). eqb (f .track) t) fs)
 
 pub first-few : (fs : List Frame) → length (rangesOf 1 fs) ≤ upTo 1 fs
 first-few fs = omega (arith, up-next 0 fs, ranges-few 1 fs)
@@ -97,6 +99,6 @@ pub none-shown : (spans : List (List ℤ)) (t : ℕ) (fs : List Frame) → 1 ≤
 none-shown spans zero fs h e = absurd (omega arith)
 none-shown spans (suc t) fs h e = rw (none-common t fs (empty (rangesOf 1 fs) e)) (record { rows = refl; count = refl; few = omega arith })
 
-pub one-shown : {spans : List (List ℤ)} {n : ℕ} (t : ℕ) (fs : List Frame) → t ≡ 1 → Shows spans n (rangesOf 1 fs) → Shows spans n (commonRangesOf t fs)
+pub one-common : (t : ℕ) (fs : List Frame) → t ≡ 1 → commonRangesOf t fs ≡ rangesOf 1 fs
 unfolding commonRangesOf
-one-shown t fs e s = rw e s
+one-common t fs e = rw e

@@ -1,36 +1,74 @@
--- Keys that are the track's, in rising order: the frames that they name start in rising order and cover what the track's frames cover.
--- What holds of each key, and which instants their frames cover, depend on the occurrences alone.
-use mathlib.Core.Path.{_≡_, refl, sym, ap, ap₂, subst, _∙_}
-use mathlib.Core.Bool.{Bool, true, false, cond, not, _&&_, _||_}
+-- The keys of frames that stand from a place on, in rising order: the frames that they name are the same ones, and start in rising order.
+-- What holds of each key, and how many pass a test, depend on the occurrences alone.
+use mathlib.Core.Path.{_≡_, refl, sym, ap, _∙_}
+use mathlib.Core.Bool.{Bool, true, cond, _&&_}
 use mathlib.Core.List.{List, [], _∷_, _++_, map, append-nil}
-use Prim.Native.Nat.{ℕ, suc, _+_, _/_, _%_, _≤_, _<_}
-use native.Mathlib.Numerals.{add-one}
+use Prim.Native.Nat.{ℕ, zero, suc, _+_, _-_, _/_, _%_, _≤_, _<_}
 use native.Mathlib.Omega.{arith}
 use lib.Dec.{leb, eqb}
-use lib.IntN.{ℤ, pos, natAbs}
+use lib.IntN.{pos, natAbs}
 use lib.ListN.{length, take, getD, set, length-set}
-use lib.Seq.{slice, getD-take, length-take-le}
 use lib.Signed.{leZ}
-use borrow.Author.Tests.{eqb-true, eqb-false, eq-eqb, ne-eqb, leb-true, le-leb}
-use Rattle.laws.proofs.BoolLaws.{split, by-test, and-left, and-right, and-both, same-test}
-use Rattle.laws.proofs.IntLaws.{lt-test, lt-add}
+use borrow.Author.Tests.{eqb-true, eqb-false, eq-eqb, leb-true, le-leb}
+use Rattle.laws.proofs.BoolLaws.{split, and-left, and-right, and-both}
 use Rattle.sorting.specs.Sorting.{following, neighbours, rises, occurrences}
 use Rattle.sorting.proofs.SortLaws.{occurs-first, occurs-later}
 use Rattle.buffer_state.specs.declared.Frame.{Frame}
 use Rattle.buffer_state.specs.Layout.{zeroFrame}
 use Rattle.buffer_state.specs.Limits.{places}
-use Rattle.buffer_state.specs.Ranges.{Range, covers, liesIn, inRanges, coveredOn, rangesOf}
+use Rattle.buffer_state.specs.Ranges.{Range}
+use Rattle.buffer_state.specs.Run.{total, count}
+use Rattle.buffer_state.specs.Walked.{intervalOf}
 use Rattle.buffer_state.specs.WellFormed.{allOf}
-use Rattle.buffer_laws.proofs.RisingLaws.{unique}
-use Rattle.buffer_laws.proofs.RangeLaws.{lasts, ranges-cover, ranges-rise}
-use Rattle.buffer_laws.proofs.TestLaws.{all-first, all-rest, all-more, all-none, all-map, all-weaker}
-use Rattle.ranges.specs.Bars.{Shows}
-use Rattle.ranges.specs.Sweep.{timely, sound, keyOf, trackKeys, Keyed, frameAt, stretchOf, stretches, swept}
-use Rattle.ranges.proofs.BarLaws.{next, done, each, more}
+use Rattle.buffer_laws.proofs.TestLaws.{all-first, all-rest, all-more, all-none, all-map}
+use Rattle.ranges.specs.Sweep.{timely, sound, keyOf, startsFrom, startsRise}
+use Rattle.ranges.specs.Walks.{upFrom, soundAt, stretchAt, standing, keysOf, Arranges}
+use Rattle.ranges.proofs.BarLaws.{all-at, more}
 use Rattle.ranges.proofs.TimeLaws.{timely-natural}
-use Rattle.ranges.proofs.SweepLaws.{some, startsFrom, startsRise, rise-in-order, swept-rise, swept-cover}
+use Rattle.ranges.proofs.SweepLaws.{rise-in-order}
 
 -- ---- lists with the same occurrences
+
+-- a list without the first k in it
+unfoldable without : ℕ → List ℕ → List ℕ
+without k [] = []
+without k (x ∷ l) = let rest = without k l in cond (eqb k x) l (x ∷ rest)
+
+module _ (p : ℕ → Bool) (k : ℕ) where
+  without-count : (l : List ℕ) → 0 < occurrences k l → count p l ≡ cond (p k) 1 0 + count p (without k l)
+  unfolding occurrences without count total
+  without-count [] h = absurd (omega arith)
+  without-count (x ∷ l) h =
+      split (eqb k x)
+      (λ t. let e : k ≡ x = eqb-true k x t in rw (t, e))
+      (λ t. rw t (omega (arith, without-count l (omega (arith, h, occurs-later k x l (eqb-false k x t))))))
+
+occurs-count : (k : ℕ) (l : List ℕ) → occurrences k l ≡ count (eqb k) l
+unfolding occurrences count total
+occurs-count k [] = refl
+occurs-count k (x ∷ l) = ap (λ (n : ℕ). cond (eqb k x) 1 0 + n) (occurs-count k l)
+
+abbrev Same : List ℕ → List ℕ → Type 0
+Same l m = (k : ℕ) → occurrences k l ≡ occurrences k m
+
+same-rest : (x : ℕ) (l m : List ℕ) → Same (x ∷ l) m → Same l (without x m)
+unfolding occurrences
+same-rest x l m same k =
+    let some : 0 < occurrences x m = omega (arith, occurs-first x l, same x) in
+    omega (arith, same k, occurs-count k m, occurs-count k (without x m), without-count (eqb k) x m some)
+
+same-count : (p : ℕ → Bool) (l m : List ℕ) → Same l m → count p l ≡ count p m
+unfolding occurrences count total
+same-count p [] [] same = refl
+same-count p [] (y ∷ m) same = absurd (omega (arith, occurs-first y m, same y))
+same-count p (x ∷ l) m same =
+    let some : 0 < occurrences x m = omega (arith, occurs-first x l, same x) in
+    omega (arith, same-count p l (without x m) (same-rest x l m same), without-count p x m some)
+
+count-map : {A B : Type 0} (p : B → Bool) (g : A → B) (l : List A) → count p (map g l) ≡ count (λ (x : A). p (g x)) l
+unfolding count total
+count-map p g [] = refl
+count-map p g (x ∷ l) = ap (λ (n : ℕ). cond (p (g x)) 1 0 + n) (count-map p g l)
 
 module _ (p : ℕ → Bool) where
   all-occurring : (l : List ℕ) → ((k : ℕ) → 0 < occurrences k l → p k ≡ true) → allOf p l ≡ true
@@ -44,195 +82,150 @@ module _ (p : ℕ → Bool) where
   occurring-all k (x ∷ l) e o =
       split (eqb k x)
       (λ t. rw (eqb-true k x t) (all-first p x l e))
-      (λ t. occurring-all k l (all-rest p x l e) (omega (arith, occurs-later k x l (eqb-false k x t))))
+      (λ t. occurring-all k l (all-rest p x l e) (omega (arith, o, occurs-later k x l (eqb-false k x t))))
 
-  module _ (l m : List ℕ) (same : (k : ℕ) → occurrences k l ≡ occurrences k m) where
-    same-all : allOf p m ≡ true → allOf p l ≡ true
-    same-all e = all-occurring l (λ k o. occurring-all k m e (omega (arith, same k)))
+  same-all : (l m : List ℕ) → Same l m → allOf p m ≡ true → allOf p l ≡ true
+  same-all l m same e = all-occurring l (λ k o. occurring-all k m e (omega (arith, same k)))
 
-either : (a b c : Bool) → b ≡ not c → (a || b) ≡ not (not a && c)
-either true b c e = refl
-either false b c e = e
+-- ---- places from one on
 
-module _ (t : ℤ) (g : ℕ → Range) where
-  -- an instant lies in no stretch if each of them lacks it
-  in-some : (l : List ℕ) → inRanges t (map g l) ≡ not (allOf (λ k. not (liesIn t (g k))) l)
-  unfolding inRanges allOf
-  in-some [] = refl
-  in-some (x ∷ l) = either (liesIn t (g x)) _ _ (in-some l)
+pub up-all : (p : ℕ → Bool) (n first : ℕ) → ((i : ℕ) → first ≤ i → i < first + n → p i ≡ true) → allOf p (upFrom n first) ≡ true
+unfolding upFrom
+up-all p zero first h = all-none p
+up-all p (suc n) first h = all-more p first _ (h first (omega arith) (omega arith)) (up-all p n (suc first) (λ i l k. h i (omega arith) (omega arith)))
 
-  same-cover : (l m : List ℕ) → ((k : ℕ) → occurrences k l ≡ occurrences k m) → inRanges t (map g l) ≡ inRanges t (map g m)
-  same-cover l m same =
-      let lacks : ℕ → Bool = λ k. not (liesIn t (g k)) in
-      in-some l
-      ∙ (ap not (same-test (allOf lacks l) (allOf lacks m) (same-all lacks m l (λ k. sym (same k))) (same-all lacks l m same)) ∙ sym (in-some m))
+pub up-at : (n first i : ℕ) → i < n → getD (upFrom n first) i 0 ≡ first + i
+unfolding upFrom
+up-at zero first i h = absurd (omega arith)
+up-at (suc n) first zero h = omega arith
+up-at (suc n) first (suc i) h = let e : suc first + i ≡ first + suc i = omega arith in up-at n (suc first) i (omega arith) ∙ e
 
--- ---- a track's keys
+pub up-length : (n first : ℕ) → length (upFrom n first) ≡ n
+unfolding upFrom
+up-length zero first = refl
+up-length (suc n) first = ap suc (up-length n (suc first))
+
+-- the frames there, where all are sound
+pub up-sound : (fs : List Frame) (first n : ℕ) → allOf (soundAt fs) (upFrom n first) ≡ true → (i : ℕ) → i < n → sound (getD fs (first + i) zeroFrame) ≡ true
+up-sound fs first n e i h =
+    ap (soundAt fs) (sym (up-at n first i h)) ∙ all-at (soundAt fs) (upFrom n first) i 0 (rw up-length h) e
+
+-- ---- keys
 
 module _ (fs : List Frame) where
-  -- the key names a sound frame, whose time it has
+  -- the frame that a key names
+  abbrev named : ℕ → Frame
+  named key = getD fs (key % places) zeroFrame
+
+  -- it is sound, and the key has its time
   abbrev proper : ℕ → Bool
-  proper key = sound (frameAt fs key) && eqb (natAbs (frameAt fs key .pts)) (key / places)
+  proper key = sound (named key) && eqb (natAbs (named key .pts)) (key / places)
 
-  proper-timely : (key : ℕ) → proper key ≡ true → timely (frameAt fs key) ≡ true
-  proper-timely key e = and-left _ _ (and-left (sound (frameAt fs key)) _ e)
-
-  proper-some : (key : ℕ) → proper key ≡ true → some (stretchOf (frameAt fs key)) ≡ true
-  proper-some key e =
-      let f = frameAt fs key in
-      lt-test (lt-add (f .pts) (f .duration) (leb-true 1 (f .duration) (and-right (timely f) _ (and-left (sound f) _ e))))
-
-  proper-time : (key : ℕ) → proper key ≡ true → frameAt fs key .pts ≡ pos (key / places)
+  proper-time : (key : ℕ) → proper key ≡ true → named key .pts ≡ pos (key / places)
   proper-time key e =
-      let f = frameAt fs key in
-      timely-natural f (proper-timely key e) ∙ ap pos (eqb-true (natAbs (f .pts)) (key / places) (and-right (sound f) _ e))
+      let f = named key in
+      timely-natural f (and-left (timely f) _ (and-left (sound f) _ e)) ∙ ap pos (eqb-true (natAbs (f .pts)) (key / places) (and-right (sound f) _ e))
 
-  -- a list of frames is what stands from a place on
-  abbrev At : ℕ → List Frame → Type 0
-  At place gs = (j : ℕ) → j < length gs → getD fs (place + j) zeroFrame ≡ getD gs j zeroFrame
+  module _ (place : ℕ) (h : place < places) where
+    abbrev key : ℕ
+    key = keyOf place (getD fs place zeroFrame)
 
-  at-rest : (place : ℕ) (f : Frame) (gs : List Frame) → At place (f ∷ gs) → At (suc place) gs
-  at-rest place f gs h j l =
-      let e : suc place + j ≡ place + suc j = omega arith in
-      ap (λ (m : ℕ). getD fs m zeroFrame) e ∙ h (suc j) (omega arith)
+    key-place : key % places ≡ place
+    key-place = omega arith
 
-  at-first : (place : ℕ) (f : Frame) (gs : List Frame) → place < places → At place (f ∷ gs) → frameAt fs (keyOf place f) ≡ f
-  at-first place f gs l h =
-      let e : keyOf place f % places ≡ place + 0 = omega arith in
-      ap (λ (m : ℕ). getD fs m zeroFrame) e ∙ h 0 (omega arith)
+    key-proper : soundAt fs place ≡ true → proper key ≡ true
+    key-proper s =
+        let f = getD fs place zeroFrame in
+        let e : eqb (natAbs (f .pts)) (key / places) ≡ true = eq-eqb (natAbs (f .pts)) (key / places) (omega arith) in
+        rw key-place (and-both s e)
 
-  keys-proper : (track place : ℕ) (gs : List Frame) → place + length gs ≤ places → At place gs → allOf sound gs ≡ true
-      → allOf proper (trackKeys track place gs) ≡ true
-  unfolding trackKeys
-  keys-proper track place [] l h e = all-none proper
-  keys-proper track place (f ∷ gs) l h e =
-      let rest : allOf proper (trackKeys track (suc place) gs) ≡ true =
-      keys-proper track (suc place) gs (omega arith) (at-rest place f gs h) (all-rest sound f gs e) in
-      let first : proper (keyOf place f) ≡ true =
-      subst (λ g. (sound g && eqb (natAbs (g .pts)) (keyOf place f / places)) ≡ true) (sym (at-first place f gs (omega arith) h))
-      (and-both (all-first sound f gs e) (eq-eqb (natAbs (f .pts)) (keyOf place f / places) (omega arith))) in
-      by-test (λ k. allOf proper k ≡ true) (eqb (f .track) track) (λ _. all-more proper (keyOf place f) _ first rest) (λ _. rest)
+  keys-places : (n first : ℕ) → first + n ≤ places → map (λ key. key % places) (keysOf fs n first) ≡ upFrom n first
+  unfolding upFrom
+  keys-places zero first h = refl
+  keys-places (suc n) first h =
+      let rest : map (λ key. key % places) (keysOf fs n (suc first)) ≡ upFrom n (suc first) = keys-places n (suc first) (omega arith) in
+      rw (key-place first (omega arith), rest)
 
-  keyed-if : (t : ℤ) (b : Bool) (x : ℕ) (l : List ℕ)
-      → inRanges t (stretches fs (cond b (x ∷ l) l)) ≡ (b && covers t (frameAt fs x) || inRanges t (stretches fs l))
-  unfolding inRanges
-  keyed-if t true x l = refl
-  keyed-if t false x l = refl
-
-  keys-cover : (t : ℤ) (track place : ℕ) (gs : List Frame) → place + length gs ≤ places → At place gs
-      → inRanges t (stretches fs (trackKeys track place gs)) ≡ coveredOn track t gs
-  unfolding trackKeys inRanges coveredOn
-  keys-cover t track place [] l h = refl
-  keys-cover t track place (f ∷ gs) l h =
-      keyed-if t (eqb (f .track) track) (keyOf place f) (trackKeys track (suc place) gs)
-      ∙ ap₂ (λ (g : Frame) (b : Bool). eqb (f .track) track && covers t g || b) (at-first place f gs (omega arith) h)
-      (keys-cover t track (suc place) gs (omega arith) (at-rest place f gs h))
+  keys-proper : (n first : ℕ) → first + n ≤ places → allOf (soundAt fs) (upFrom n first) ≡ true → allOf proper (keysOf fs n first) ≡ true
+  unfolding upFrom
+  keys-proper zero first h e = all-none proper
+  keys-proper (suc n) first h e =
+      all-more proper _ _ (key-proper first (omega arith) (all-first (soundAt fs) first (upFrom n (suc first)) e))
+      (keys-proper n (suc first) (omega arith) (all-rest (soundAt fs) first (upFrom n (suc first)) e))
 
   -- keys in rising order name frames in the order of their times
   keys-from : (x : ℕ) (l : List ℕ) → following leb x l ≡ true → proper x ≡ true → allOf proper l ≡ true
-      → startsFrom (stretchOf (frameAt fs x)) (stretches fs l) ≡ true
+      → startsFrom (intervalOf (named x)) (map (λ key. intervalOf (named key)) l) ≡ true
   unfolding following startsFrom
   keys-from x [] r p e = refl
   keys-from x (y ∷ l) r p e =
       let q : proper y ≡ true = all-first proper y l e in
       let h : x ≤ y = leb-true x y (and-left (leb x y) _ r) in
-      let first : leZ (frameAt fs x .pts) (frameAt fs y .pts) ≡ true = rw (proper-time x p, proper-time y q) (le-leb (x / places) (y / places) (omega arith)) in
-      and-both first
-      (keys-from y l (and-right (leb x y) _ r) q (all-rest proper y l e))
+      let first : leZ (named x .pts) (named y .pts) ≡ true = rw (proper-time x p, proper-time y q) (le-leb (x / places) (y / places) (omega arith)) in
+      and-both first (keys-from y l (and-right (leb x y) _ r) q (all-rest proper y l e))
 
-  keys-rise : (l : List ℕ) → rises l ≡ true → allOf proper l ≡ true → startsRise (stretches fs l) ≡ true
+  keys-rise : (l : List ℕ) → rises l ≡ true → allOf proper l ≡ true → startsRise (map (λ key. intervalOf (named key)) l) ≡ true
   unfolding neighbours
   keys-rise [] r e = refl
   keys-rise (x ∷ l) r e = keys-from x l r (all-first proper x l e) (all-rest proper x l e)
 
--- ---- the loop that finds them
+-- ---- the keys of n frames from a place on, sorted
 
--- the first k keys, with those of the frames from i on, are the track's
-pub record Found (track : ℕ) (fs : List Frame) (n : ℕ) (keys : List ℕ) (k i : ℕ) : Type 0 where
-  pub full : n ≤ length fs
-  pub size : length keys ≡ places
-  pub all : take k keys ++ trackKeys track i (slice i n fs) ≡ trackKeys track 0 (take n fs)
+map-twice : {A B C : Type 0} (f : B → C) (g : A → B) (l : List A) → map f (map g l) ≡ map (λ (x : A). f (g x)) l
+map-twice f g [] = refl
+map-twice f g (x ∷ l) = ap (λ m. f (g x) ∷ m) (map-twice f g l)
 
-module _ {track : ℕ} {fs : List Frame} {n : ℕ} {keys : List ℕ} {k i : ℕ} (inv : Found track fs n keys k i) where
-  pub own-key : i < n → k < places → (key : ℕ) → key ≡ keyOf i (getD fs i zeroFrame) → getD fs i zeroFrame .track ≡ track
-      → Found track fs n (set keys k key) (k + 1) (i + 1)
-  unfolding trackKeys
-  own-key h room key q e = record {
-    full = inv .full;
-    size = length-set keys k key ∙ inv .size;
-    all =
-        rw (more keys k key (trackKeys track (i + 1) (slice (i + 1) n fs)) (omega (arith, inv .size)), q)
-        (rw (next fs i n zeroFrame h (inv .full), eq-eqb (getD fs i zeroFrame .track) track e, ← add-one i) at (inv .all));
-  }
-
-  pub other-key : i < n → (getD fs i zeroFrame .track ≡ track → ⊥) → Found track fs n keys k (i + 1)
-  unfolding trackKeys
-  other-key h e = record {
-    full = inv .full;
-    size = inv .size;
-    all = rw (next fs i n zeroFrame h (inv .full), ne-eqb (getD fs i zeroFrame .track) track e, ← add-one i) at (inv .all);
-  }
-
-  pub all-keys : n ≤ i → k ≤ places → Keyed keys k (trackKeys track 0 (take n fs))
-  unfolding trackKeys
-  all-keys h room =
-      let e : take k keys ≡ trackKeys track 0 (take n fs) = sym (append-nil (take k keys)) ∙ (rw (done fs i n h) at (inv .all)) in
-      record { keys = e; count = sym (length-take-le k keys (omega (arith, inv .size))) ∙ ap length e }
-
-pub keys-few : (track place : ℕ) (gs : List Frame) → length (trackKeys track place gs) ≤ length gs
-unfolding trackKeys
-keys-few track place [] = omega arith
-keys-few track place (f ∷ gs) =
-    let rest : length (trackKeys track (suc place) gs) ≤ length gs = keys-few track (suc place) gs in
-    by-test (λ l. length l ≤ suc (length gs)) (eqb (f .track) track) {x = keyOf place f ∷ _} (λ _. omega arith) (λ _. omega arith)
-
--- ---- the keys of the first n frames, sorted
-
-module _ (track n : ℕ) (fs : List Frame) (few : n ≤ places) (full : n ≤ length fs) (good : allOf sound (take n fs) ≡ true)
-    (l : List ℕ) (rise : rises l ≡ true) (same : (k : ℕ) → occurrences k l ≡ occurrences k (trackKeys track 0 (take n fs))) where
-  stored-at : At fs 0 (take n fs)
-  stored-at j h =
-      let e : 0 + j ≡ j = omega arith in
-      ap (λ (m : ℕ). getD fs m zeroFrame) e ∙ sym (getD-take n fs j zeroFrame (omega (arith, length-take-le n fs full)))
+module _ (fs : List Frame) (first n : ℕ) (fits : first + n ≤ places) (good : allOf (soundAt fs) (upFrom n first) ≡ true)
+    (l : List ℕ) (rise : rises l ≡ true) (same : (k : ℕ) → occurrences k l ≡ occurrences k (keysOf fs n first)) where
+  abbrev sortedPlaces : List ℕ
+  sortedPlaces = map (λ key. key % places) l
 
   sorted-proper : allOf (proper fs) l ≡ true
-  sorted-proper =
-      same-all (proper fs) l (trackKeys track 0 (take n fs)) same
-      (keys-proper fs track 0 (take n fs) (omega (arith, length-take-le n fs full)) stored-at good)
+  sorted-proper = same-all (proper fs) l (keysOf fs n first) same (keys-proper fs n first fits good)
 
-  -- each names a timely frame
-  pub sorted-timely : allOf (λ key. timely (frameAt fs key)) l ≡ true
-  sorted-timely = all-weaker (proper fs) _ (proper-timely fs) l sorted-proper
+  pub sorted-sound : allOf (soundAt fs) sortedPlaces ≡ true
+  sorted-sound = all-map (proper fs) (soundAt fs) (λ key. key % places) (λ key e. and-left (sound (named fs key)) _ e) l sorted-proper
 
-  -- a walk over them gives the track's ranges
-  swept-ranges : swept (stretches fs l) ≡ rangesOf track (take n fs)
-  swept-ranges =
-      let each : allOf some (stretches fs l) ≡ true = all-map (proper fs) some (λ key. stretchOf (frameAt fs key)) (proper-some fs) l sorted-proper in
-      unique (swept (stretches fs l)) (rangesOf track (take n fs)) (swept-rise (stretches fs l) each)
-      (ranges-rise track (take n fs) (all-weaker sound lasts (λ f s. and-right (timely f) _ s) (take n fs) good))
-      (λ t. swept-cover t (stretches fs l) (rise-in-order (stretches fs l) (keys-rise fs l rise sorted-proper)) each
-      ∙ (same-cover t (λ key. stretchOf (frameAt fs key)) l (trackKeys track 0 (take n fs)) same
-      ∙ (keys-cover fs t track 0 (take n fs) (omega (arith, length-take-le n fs full)) stored-at ∙ sym (ranges-cover track t (take n fs)))))
+  sorted-count : (p : Range → Bool) → count p (map (stretchAt fs) sortedPlaces) ≡ count p (standing fs first n)
+  sorted-count p =
+      let q : ℕ → Bool = λ key. p (stretchAt fs (key % places)) in
+      ap (count p) (map-twice (stretchAt fs) (λ key. key % places) l) ∙ count-map p _ l ∙ same-count q l (keysOf fs n first) same
+      ∙ sym (ap (count p) (map-twice (stretchAt fs) (λ key. key % places) (keysOf fs n first)) ∙ count-map p _ (keysOf fs n first))
+      ∙ ap (λ (m : List ℕ). count p (map (stretchAt fs) m)) (keys-places fs n first fits)
 
-  pub swept-shown : {spans : List (List ℤ)} {k : ℕ} → Shows spans k (swept (stretches fs l)) → Shows spans k (rangesOf track (take n fs))
-  swept-shown s = rw (← swept-ranges) s
+  pub sorted-arranges : Arranges (map (stretchAt fs) sortedPlaces) (standing fs first n)
+  sorted-arranges = record {
+    same = sorted-count;
+    order = rise-in-order (map (stretchAt fs) sortedPlaces) (ap startsRise (map-twice (stretchAt fs) (λ key. key % places) l) ∙ keys-rise fs l rise sorted-proper);
+  }
 
--- ---- the walk over keys
+-- ---- the loop that makes them
 
-pub none-walked : (fs : List Frame) (keys : List ℕ) (n : ℕ) (spans : List (List ℤ)) → n ≡ 0 → Shows spans 0 (swept (stretches fs (take n keys)))
-unfolding swept
-none-walked fs keys n spans e = rw e (record { rows = refl; count = refl; few = omega arith })
+-- the first k keys, with those of the frames behind, are all
+pub record Keyed (fs : List Frame) (first n : ℕ) (keys : List ℕ) (k : ℕ) : Type 0 where
+  pub size : length keys ≡ places
+  pub all : take k keys ++ keysOf fs (n - k) (first + k) ≡ keysOf fs n first
 
--- the frame that the next key names
+pub none-keyed : (fs : List Frame) (first n : ℕ) (keys : List ℕ) → length keys ≡ places → Keyed fs first n keys 0
+none-keyed fs first n keys size =
+    let e : first + 0 ≡ first = omega arith in
+    let m : n - 0 ≡ n = omega arith in
+    record { size = size; all = rw (e, m) }
 
-module _ (fs : List Frame) (keys : List ℕ) (n i : ℕ) (h : i < n) (full : n ≤ length keys)
-    (place : ℕ) (p : place ≡ getD keys i 0 % places) (f : Frame) (d : f ≡ getD fs place zeroFrame) where
-  named : f ≡ frameAt fs (getD keys i 0)
-  named = d ∙ ap (λ (m : ℕ). getD fs m zeroFrame) p
+module _ {fs : List Frame} {first n : ℕ} {keys : List ℕ} {k : ℕ} (inv : Keyed fs first n keys k) where
+  pub one-keyed : k < n → k < places → (key : ℕ) → key ≡ keyOf (first + k) (getD fs (first + k) zeroFrame) → Keyed fs first n (set keys k key) (k + 1)
+  unfolding upFrom
+  one-keyed h room key q =
+      let e : n - k ≡ suc (n - (k + 1)) = omega arith in
+      let s : suc (first + k) ≡ first + (k + 1) = omega arith in
+      record {
+        size = length-set keys k key ∙ inv .size;
+        all = rw (more keys k key (keysOf fs (n - (k + 1)) (first + (k + 1))) (omega (arith, inv .size)), q) (rw (e, s) at (inv .all));
+      }
 
-  pub named-timely : allOf (λ key. timely (frameAt fs key)) (take n keys) ≡ true → timely f ≡ true
-  named-timely e = ap timely named ∙ each keys (λ key. timely (frameAt fs key)) i n 0 h full e
-
-  pub named-next : (q : Range) → q ≡ stretchOf f → stretches fs (slice i n keys) ≡ q ∷ stretches fs (slice (i + 1) n keys)
-  named-next q e =
-      ap (stretches fs) (next keys i n 0 h full) ∙ ap (λ (r : Range). r ∷ stretches fs (slice (i + 1) n keys)) (sym (e ∙ ap stretchOf named))
+  pub all-keyed : n ≤ k → k ≤ n → take n keys ≡ keysOf fs n first
+  unfolding upFrom
+  all-keyed h g =
+      let e : n - k ≡ 0 = omega arith in
+      let m : k ≡ n = omega arith in
+      rw (append-nil, m) at (rw e at (inv .all))

@@ -2,8 +2,12 @@ pub mod BarLaws
 pub mod TimeLaws
 pub mod StoredLaws
 pub mod SweepLaws
+pub mod TakenLaws
+pub mod WalkLaws
 pub mod OwnLaws
 pub mod KeyLaws
+pub mod OrderLaws
+pub mod TrackLaws
 pub mod MeetLaws
 pub mod CountLaws
 pub mod StoresLaws

@@ -1,6 +1,6 @@
 -- A well-formed state is one that the reports ask for.
 use mathlib.Core.Path.{_≡_}
-use mathlib.Core.Bool.{true}
+use mathlib.Core.Bool.{true, _&&_}
 use mathlib.Core.List.{List}
 use Prim.Native.Nat.{ℕ, _≤_}
 use native.Mathlib.Omega.{arith}
@@ -9,7 +9,7 @@ use lib.IntN.{ℤ}
 use lib.ListN.{length, take}
 use lib.Seq.{length-take-le}
 use borrow.Author.Tests.{leb-true}
-use Rattle.laws.proofs.BoolLaws.{and-left, and-both}
+use Rattle.laws.proofs.BoolLaws.{and-left, and-right, and-both}
 use Rattle.buffer_state.specs.declared.Frame.{Frame}
 use Rattle.buffer_state.specs.declared.Head.{Head}
 use Rattle.buffer_state.specs.Layout.{bufferOf, laidOut, wellFormed}
@@ -53,3 +53,6 @@ module _ (h : Head) (ts : List (List ℤ)) (gs : List (List ℕ)) (w : wellForme
       let n : ℕ = length (take (h .ntracks) (h .tracks)) in
       let some : 1 ≤ n = leb-true 1 n (and-left (leb 1 n) _ (and-left (goodCount n) _ (good .tracks))) in
       (omega (arith, track-count), layout .ntracks)
+
+  pub few-tracks : (track : ℕ) → (leb 1 track && leb track (h .ntracks)) ≡ true → track ≤ mostTracks
+  few-tracks track e = omega (arith, leb-true track (h .ntracks) (and-right (leb 1 track) _ e), layout .ntracks)

@@ -9,14 +9,13 @@ use Rattle.buffer_state.specs.Answers.{laid, rangeCount, rangesAfter}
 use Rattle.buffer_state.specs.Refusals.{Result}
 use Rattle.buffer_state.specs.declared.Count.{Count}
 use Rattle.buffer_state.specs.declared.Frame.{Frame}
-use Rattle.buffer_state.specs.Layout.{zeroFrame}
 use Rattle.buffer_state.specs.Lent.{framesOf, Lengths}
 use Rattle.buffer_state.specs.Limits.{places}
 use Rattle.buffer_state.specs.Ranges.{Range, rising}
 use Rattle.buffer_state.specs.WellFormed.{allOf, sorted}
 use Rattle.ranges.specs.declared.Span.{Span}
 use Rattle.ranges.specs.Read.{rangesIn}
-use Rattle.ranges.specs.Sweep.{sound, ownStretches}
+use Rattle.ranges.specs.Sweep.{under, fromOn, sound}
 
 -- ---- the stored frames
 
@@ -31,10 +30,10 @@ pub record Stores (ts : List (List ℤ)) (gs : List (List ℕ)) (n : ℕ) : Type
   pub each : allOf sound (stored ts gs n) ≡ true
   pub order : sorted (stored ts gs n) ≡ true
 
--- p is the place of the track's first frame, or past the last frame
-pub record Begins (track : ℕ) (fs : List Frame) (p : ℕ) : Type 0 where
-  pub own : p < length fs → getD fs p zeroFrame .track ≡ track
-  pub from : ownStretches track (drop p fs) ≡ ownStretches track fs
+-- frames up to a place are of lower tracks, those from there on of the track or of one above
+pub record Parts (track : ℕ) (fs : List Frame) (place : ℕ) : Type 0 where
+  pub below : allOf (under track) (take place fs) ≡ true
+  pub from : allOf (fromOn track) (drop place fs) ≡ true
 
 -- ---- bars
 
@@ -54,6 +53,11 @@ pub record Shows (spans : List (List ℤ)) (n : ℕ) (rs : List Range) : Type 0 
   pub rows : take n spans ≡ laid rs
   pub count : n ≡ length rs
   pub few : n ≤ places
+
+-- the first n rows are these ranges; or n is more than there is room for, and so are they
+pub record Bars (room : ℕ) (rs : List Range) (spans : List (List ℤ)) (n : ℕ) : Type 0 where
+  pub shows : n ≤ room → Shows spans n rs
+  pub over : room < n → room < length rs
 
 -- ranges of both in rising order, and places for them all
 pub record Meets (xs : List (List ℤ)) (m : ℕ) (ys : List (List ℤ)) (n : ℕ) : Type 0 where

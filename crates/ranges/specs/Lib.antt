@@ -1,3 +1,4 @@
 pub mod Sweep
 pub mod Read
 pub mod Bars
+pub mod Walks

@@ -7,20 +7,23 @@ use buffer_state::Refusal;
 use buffer_state::Tags;
 use buffer_state::Times;
 ghost use mathlib.Core.Path.{_≡_};
-ghost use mathlib.Core.Bool.{true, cond};
+ghost use mathlib.Core.Bool.{true, cond, _&&_};
 ghost use Prim.Native.Nat.{_+_, _-_, _%_, _<_, _≤_};
-ghost use lib.ListN.{length, take, drop, set};
+ghost use lib.Dec.{leb};
+ghost use lib.ListN.{length, take, drop, getD, set};
 ghost use lib.Signed.{ltZ};
 ghost use Rattle.seconds.specs.Seconds.{sameInt};
 ghost use Rattle.buffer_state.specs.Lent.{framesOf, Lengths};
-ghost use Rattle.buffer_state.specs.Limits.{places};
+ghost use Rattle.buffer_state.specs.Limits.{places, mostTracks};
 ghost use Rattle.buffer_state.specs.Ranges.{lesser, greater, common, rangesOf, commonRangesOf};
+ghost use Rattle.buffer_state.specs.Walked.{intervalOf, presented, takenOf};
 ghost use Rattle.buffer_state.specs.WellFormed.{allOf};
-ghost use Rattle.buffer_state.specs.Answers.{trackRangesResult, commonRangesResult};
+ghost use Rattle.buffer_state.specs.Answers.{trackRangesResult, commonRangesResult, takenCount, walkedResult};
 ghost use Rattle.buffer_laws.proofs.CommonLaws.{shared};
-ghost use Rattle.ranges.specs.Bars.{rangeOf, rangeIn, rowOf, stored, Stores, Begins, Shows, Meets, Reported};
+ghost use Rattle.ranges.specs.Bars.{rangeOf, rangeIn, rowOf, stored, Stores, Parts, Shows, Bars, Meets, Reported};
 ghost use Rattle.ranges.specs.Read.{rangesIn};
-ghost use Rattle.ranges.specs.Sweep.{timely, keyOf, trackKeys, Keyed, frameAt, stretchOf, grown, stretches, swept};
+ghost use Rattle.ranges.specs.Sweep.{under, timely, keyOf, grown, startsRise};
+ghost use Rattle.ranges.specs.Walks.{upFrom, soundAt, keysOf, placesIn, stretchesIn, standing, Named, Ordered, Standing, Next, Tells, Walks};
 
 // From start up to but not including end, in microseconds.
 struct Span {
@@ -52,7 +55,7 @@ fn put(spans: &mut [[i64; 2]], k: usize, x: Span)
 // The stretch that a frame covers.
 fn span_of(f: Frame) -> Span
     requires { ⌜ timely f ≡ true ⌝ }
-    ensures { λ r. ⌜ rangeOf r ≡ stretchOf f ⌝ }
+    ensures { λ r. ⌜ rangeOf r ≡ intervalOf f ⌝ }
 {
     let p = f.pts;
     let d = f.duration as i64;
@@ -111,14 +114,14 @@ fn from_to(a: Span, b: Span) -> Span
     }
 }
 
-// ---- the frames as they stand in the store, where no frame starts before the range that is open
+// ---- the track's frames in presentation order
 
-// The place of the track's first frame, found by halving, or n where it has none.
-fn first_of(times: &[[i64; 2]], tags: &[[u32; 4]], n: usize, track: u32) -> usize
-    requires { ⌜ Stores (now times) (now tags) n ⌝ }
-    ensures { λ r. ⌜ Begins track (stored (now (times .entry)) (now (tags .entry)) n) r ⌝ }
+// The place of the first frame, from one on, that is of the track or of one above; found by halving.
+fn first_from(times: &[[i64; 2]], tags: &[[u32; 4]], from: usize, n: usize, track: u32) -> usize
+    requires { ⌜ (Stores (now times) (now tags) n) × (from ≤ n) × (allOf (under track) (take from (stored (now times) (now tags) n)) ≡ true) ⌝ }
+    ensures { λ r. ⌜ (Parts track (stored (now (times .entry)) (now (tags .entry)) n) r) × (from ≤ r) × (r ≤ n) ⌝ }
 {
-    let mut low: usize = 0;
+    let mut low = from;
     let mut high = n;
     while low < high {
         let middle = (low + high) / 2;
@@ -129,81 +132,15 @@ fn first_of(times: &[[i64; 2]], tags: &[[u32; 4]], n: usize, track: u32) -> usiz
             high = middle;
         }
     }
-    if n <= low {
-        return n;
-    }
-    let f = places::frame_at(times, tags, low);
-    if f.track == track {
-        return low;
-    }
-    n
+    low
 }
 
-// How many ranges a walk wrote, and whether no frame started before the range that was open.
-struct Walk {
+// The order in which a walk takes so many frames: as they stand in the store from a place on, or as keys name their places.
+struct Order {
     count: usize,
-    ordered: bool,
-}
-
-// The last range is put in too.
-fn closed(spans: &mut [[i64; 2]], k: usize, last: Span) -> Walk
-    requires { ⌜ k < length (now spans) ⌝ }
-    ensures { λ r. ⌜ (now (spans .exit) ≡ set (now (spans .entry)) k (rowOf (rangeOf last))) × (r .count ≡ k + 1) ⌝ }
-{
-    put(spans, k, last);
-    Walk {
-        count: k + 1,
-        ordered: true,
-    }
-}
-
-// One walk over the track's frames from the first on: a stretch that starts at or before the end of the range that is open makes it
-// grow, and one that starts later opens the next. The walk leaves at a frame that starts before that range. Most frames start where
-// the one before ends, and are met first: they need no greater of two ends.
-fn walk_stored(
-    times: &[[i64; 2]],
-    tags: &[[u32; 4]],
-    n: usize,
-    track: u32,
     first: usize,
-    spans: &mut [[i64; 2]],
-) -> Walk
-    requires { ⌜ (Stores (now times) (now tags) n) × (Begins track (stored (now times) (now tags) n) first) × (first < n) × (length (now spans) ≡ places) ⌝ }
-    ensures { λ r. ⌜ (r .ordered ≡ true → Shows (now (spans .exit)) (r .count) (rangesOf track (stored (now (times .entry)) (now (tags .entry)) n))) ⌝ }
-{
-    let f = places::frame_at(times, tags, first);
-    let mut last = span_of(f);
-    let mut k: usize = 0;
-    let mut i = first + 1;
-    while i < n {
-        let g = places::frame_at(times, tags, i);
-        if g.track != track {
-            return closed(spans, k, last);
-        }
-        let next = span_of(g);
-        if touching(last, next) {
-            last = from_to(last, next);
-            i += 1;
-        } else if apart(last, next) {
-            put(spans, k, last);
-            last = next;
-            k += 1;
-            i += 1;
-        } else {
-            if starts_sooner(next, last) {
-                return Walk {
-                    count: 0,
-                    ordered: false,
-                };
-            }
-            last = grow(last, next);
-            i += 1;
-        }
-    }
-    closed(spans, k, last)
+    stored: bool,
 }
-
-// ---- the frames put in presentation order
 
 const KEYS_A_TIME: u64 = PLACES as u64;
 
@@ -217,33 +154,6 @@ fn key_of(f: Frame, place: usize) -> u64
     time * KEYS_A_TIME + (place as u64)
 }
 
-// The keys of the track's frames, and how many there are.
-fn track_keys(
-    times: &[[i64; 2]],
-    tags: &[[u32; 4]],
-    n: usize,
-    track: u32,
-    keys: &mut [u64],
-) -> usize
-    requires { ⌜ (Stores (now times) (now tags) n) × (length (now keys) ≡ places) ⌝ }
-    ensures { λ r. ⌜ Keyed (now (keys .exit)) r (trackKeys track 0 (stored (now (times .entry)) (now (tags .entry)) n)) ⌝ }
-{
-    let mut k: usize = 0;
-    let mut i: usize = 0;
-    while i < n {
-        let f = places::frame_at(times, tags, i);
-        if f.track == track {
-            let key = key_of(f, i);
-            keys[k] = key;
-            k += 1;
-            i += 1;
-        } else {
-            i += 1;
-        }
-    }
-    k
-}
-
 // The place in the store that a key names.
 fn place_of(key: u64) -> usize
     ensures { λ r. ⌜ r ≡ key % places ⌝ }
@@ -251,66 +161,221 @@ fn place_of(key: u64) -> usize
     (key % KEYS_A_TIME) as usize
 }
 
-// The same walk over the frames that the first n keys name.
-fn walk_keys(
+// The keys of so many frames from a place on.
+fn keys_of(times: &[[i64; 2]], tags: &[[u32; 4]], first: usize, count: usize, keys: &mut [u64])
+    requires { ⌜ (Lengths (now times) (now tags)) × (first + count ≤ places) × (length (now keys) ≡ places)
+        × (allOf (soundAt (framesOf (now times) (now tags))) (upFrom count first) ≡ true) ⌝ }
+    ensures { λ r. ⌜ take count (now (keys .exit)) ≡ keysOf (framesOf (now (times .entry)) (now (tags .entry))) count first ⌝ }
+{
+    let mut k: usize = 0;
+    while k < count {
+        let place = first + k;
+        let f = places::frame_at(times, tags, place);
+        let key = key_of(f, place);
+        keys[k] = key;
+        k += 1;
+    }
+}
+
+// The place of the i-th frame in order.
+fn place_at(keys: &[u64], order: Order, i: usize) -> usize
+    requires { ⌜ (Named order (now keys)) × (i < order .count) ⌝ }
+    ensures { λ r. ⌜ (r ≡ getD (placesIn order (now (keys .entry))) i 0) × (r < places) ⌝ }
+{
+    if order.stored {
+        return order.first + i;
+    }
+    place_of(keys[i])
+}
+
+// The stretch of the i-th frame in order.
+fn stretch_at(times: &[[i64; 2]], tags: &[[u32; 4]], keys: &[u64], order: Order, i: usize) -> Span
+    requires { ⌜ (Ordered (now times) (now tags) order (now keys)) × (i < order .count) ⌝ }
+    ensures { λ r. ⌜ Next (stretchesIn (framesOf (now (times .entry)) (now (tags .entry))) order (now (keys .entry))) i (rangeOf r) ⌝ }
+{
+    let place = place_at(keys, order, i);
+    let f = places::frame_at(times, tags, place);
+    span_of(f)
+}
+
+// ---- the walk
+
+// How many frames a walk took and how many ranges it opened, one of them too many where it left early; and whether no frame that it
+// took starts before the range that was open.
+struct Walk {
+    taken: usize,
+    ranges: usize,
+    ordered: bool,
+}
+
+// One walk over the frames in order: the outer loop opens a range, the inner one extends it, and both are left at one range too many, at
+// the last frame, or at a frame that starts before the range. Most frames start where the one before ends, and are met first: they
+// need no greater of two ends.
+fn walk_ordered(
     times: &[[i64; 2]],
     tags: &[[u32; 4]],
     keys: &[u64],
-    n: usize,
+    order: Order,
+    room: usize,
     spans: &mut [[i64; 2]],
-) -> usize
-    requires { ⌜ (Lengths (now times) (now tags)) × (n ≤ places) × (n ≤ length (now keys)) × (length (now spans) ≡ places)
-        × (allOf (λ key. timely (frameAt (framesOf (now times) (now tags)) key)) (take n (now keys)) ≡ true) ⌝ }
-    ensures { λ r. ⌜ Shows (now (spans .exit)) r (swept (stretches (framesOf (now (times .entry)) (now (tags .entry))) (take n (now (keys .entry))))) ⌝ }
+) -> Walk
+    requires { ⌜ (Ordered (now times) (now tags) order (now keys)) × (length (now spans) ≡ places) ⌝ }
+    ensures { λ r. ⌜ Tells room (stretchesIn (framesOf (now (times .entry)) (now (tags .entry))) order (now (keys .entry))) (now (spans .exit)) r ⌝ }
 {
+    let n = order.count;
     if n == 0 {
-        return 0;
+        return Walk {
+            taken: 0,
+            ranges: 0,
+            ordered: true,
+        };
     }
-    let f = places::frame_at(times, tags, place_of(keys[0]));
-    let mut last = span_of(f);
+    if room == 0 {
+        return Walk {
+            taken: 1,
+            ranges: 1,
+            ordered: true,
+        };
+    }
+    let mut i: usize = 0;
     let mut k: usize = 0;
-    let mut i: usize = 1;
-    while i < n {
-        let g = places::frame_at(times, tags, place_of(keys[i]));
-        let next = span_of(g);
-        if apart(last, next) {
-            put(spans, k, last);
-            last = next;
-            k += 1;
-            i += 1;
-        } else {
-            last = grow(last, next);
+    'ranges: loop {
+        let mut range = stretch_at(times, tags, keys, order, i);
+        i += 1;
+        loop {
+            if i == n {
+                put(spans, k, range);
+                break 'ranges Walk {
+                    taken: n,
+                    ranges: k + 1,
+                    ordered: true,
+                };
+            }
+            let next = stretch_at(times, tags, keys, order, i);
+            if touching(range, next) {
+                range = from_to(range, next);
+                i += 1;
+                continue;
+            }
+            if apart(range, next) {
+                put(spans, k, range);
+                k += 1;
+                if k == room {
+                    break 'ranges Walk {
+                        taken: i + 1,
+                        ranges: k + 1,
+                        ordered: true,
+                    };
+                }
+                break;
+            }
+            if starts_sooner(next, range) {
+                break 'ranges Walk {
+                    taken: 0,
+                    ranges: 0,
+                    ordered: false,
+                };
+            }
+            range = grow(range, next);
             i += 1;
         }
     }
-    put(spans, k, last);
-    k + 1
 }
 
-// The ranges of a track. Only frames that are not in order as they stand are put in order.
-fn track_bars(
+// Whether no frame behind the one at a place in the order starts before the one in front of it.
+fn rise_from(times: &[[i64; 2]], tags: &[[u32; 4]], keys: &[u64], order: Order, at: usize) -> bool
+    requires { ⌜ (Ordered (now times) (now tags) order (now keys)) × (at < order .count) ⌝ }
+    ensures { λ r. ⌜ r ≡ startsRise (drop at (stretchesIn (framesOf (now (times .entry)) (now (tags .entry))) order (now (keys .entry)))) ⌝ }
+{
+    let mut last = stretch_at(times, tags, keys, order, at);
+    let mut i = at + 1;
+    while i < order.count {
+        let next = stretch_at(times, tags, keys, order, i);
+        if starts_sooner(next, last) {
+            return false;
+        }
+        last = next;
+        i += 1;
+    }
+    true
+}
+
+// The walk over so many frames from a place on, as they stand, for which no key is asked. Where it leaves early, the frames behind are to
+// be in order too.
+fn walk_stored(
+    times: &[[i64; 2]],
+    tags: &[[u32; 4]],
+    first: usize,
+    count: usize,
+    room: usize,
+    spans: &mut [[i64; 2]],
+) -> Walk
+    requires { ⌜ (Standing (now times) (now tags) first count) × (length (now spans) ≡ places) ⌝ }
+    ensures { λ r. ⌜ (r .ordered ≡ true → Walks room (standing (framesOf (now (times .entry)) (now (tags .entry))) first count) (now (spans .exit)) r) ⌝ }
+{
+    let order = Order {
+        count: count,
+        first: first,
+        stored: true,
+    };
+    let none = [0u64; 1];
+    let w = walk_ordered(times, tags, &none, order, room, spans);
+    if room < w.ranges {
+        let rest = rise_from(times, tags, &none, order, w.taken - 1);
+        return Walk {
+            taken: w.taken,
+            ranges: w.ranges,
+            ordered: rest,
+        };
+    }
+    w
+}
+
+// The walk over the same frames, put in presentation order.
+fn walk_sorted(
+    times: &[[i64; 2]],
+    tags: &[[u32; 4]],
+    first: usize,
+    count: usize,
+    room: usize,
+    spans: &mut [[i64; 2]],
+) -> Walk
+    requires { ⌜ (Standing (now times) (now tags) first count) × (length (now spans) ≡ places) ⌝ }
+    ensures { λ r. ⌜ Walks room (standing (framesOf (now (times .entry)) (now (tags .entry))) first count) (now (spans .exit)) r ⌝ }
+{
+    let mut keys = [0u64; PLACES];
+    keys_of(times, tags, first, count, &mut keys);
+    let mut other = [0u64; PLACES];
+    sorting::sort(&mut keys, &mut other, count);
+    let order = Order {
+        count: count,
+        first: 0,
+        stored: false,
+    };
+    walk_ordered(times, tags, &keys, order, room, spans)
+}
+
+// The walk over a track's frames. Only frames that are not in order as they stand are sorted.
+fn track_walk(
     times: &[[i64; 2]],
     tags: &[[u32; 4]],
     n: usize,
     track: u32,
+    room: usize,
     spans: &mut [[i64; 2]],
-) -> usize
-    requires { ⌜ (Stores (now times) (now tags) n) × (length (now spans) ≡ places) ⌝ }
-    ensures { λ r. ⌜ Shows (now (spans .exit)) r (rangesOf track (stored (now (times .entry)) (now (tags .entry)) n)) ⌝ }
+) -> Walk
+    requires { ⌜ (Stores (now times) (now tags) n) × (track ≤ mostTracks) × (length (now spans) ≡ places) ⌝ }
+    ensures { λ r. ⌜ r .taken ≡ takenOf room (presented track (stored (now (times .entry)) (now (tags .entry)) n)) ⌝ }
+    ensures { λ r. ⌜ Bars room (rangesOf track (stored (now (times .entry)) (now (tags .entry)) n)) (now (spans .exit)) (r .ranges) ⌝ }
 {
-    let first = first_of(times, tags, n, track);
-    if n <= first {
-        return 0;
-    }
-    let w = walk_stored(times, tags, n, track, first, spans);
+    let first = first_from(times, tags, 0, n, track);
+    let end = first_from(times, tags, first, n, track + 1);
+    let count = end - first;
+    let w = walk_stored(times, tags, first, count, room, spans);
     if w.ordered {
-        return w.count;
+        return w;
     }
-    let mut keys = [0u64; PLACES];
-    let count = track_keys(times, tags, n, track, &mut keys);
-    let mut room = [0u64; PLACES];
-    sorting::sort(&mut keys, &mut room, count);
-    walk_keys(times, tags, &keys, count, spans)
+    walk_sorted(times, tags, first, count, room, spans)
 }
 
 // ---- what all tracks have in common
@@ -397,21 +462,39 @@ fn both_bars(spans: &mut [[i64; 2]], m: usize, more: &[[i64; 2]], n: usize) -> u
     k
 }
 
-// The ranges that all tracks have in common.
+// All ranges of a track.
+fn track_bars(
+    times: &[[i64; 2]],
+    tags: &[[u32; 4]],
+    n: usize,
+    track: u32,
+    spans: &mut [[i64; 2]],
+) -> usize
+    requires { ⌜ (Stores (now times) (now tags) n) × (track ≤ mostTracks) × (length (now spans) ≡ places) ⌝ }
+    ensures { λ r. ⌜ Shows (now (spans .exit)) r (rangesOf track (stored (now (times .entry)) (now (tags .entry)) n)) ⌝ }
+{
+    let w = track_walk(times, tags, n, track, PLACES, spans);
+    w.ranges
+}
+
+// The ranges that all tracks have in common. One track's walk leaves early; of more tracks, each walk finds all ranges, as what they have
+// in common can be less.
 fn common_bars(
     times: &[[i64; 2]],
     tags: &[[u32; 4]],
     n: usize,
     tracks: u32,
+    room: usize,
     spans: &mut [[i64; 2]],
 ) -> usize
-    requires { ⌜ (Stores (now times) (now tags) n) × (1 ≤ tracks) × (tracks ≤ 4) × (length (now spans) ≡ places) ⌝ }
-    ensures { λ r. ⌜ Shows (now (spans .exit)) r (commonRangesOf tracks (stored (now (times .entry)) (now (tags .entry)) n)) ⌝ }
+    requires { ⌜ (Stores (now times) (now tags) n) × (1 ≤ tracks) × (tracks ≤ mostTracks) × (length (now spans) ≡ places) ⌝ }
+    ensures { λ r. ⌜ Bars room (commonRangesOf tracks (stored (now (times .entry)) (now (tags .entry)) n)) (now (spans .exit)) r ⌝ }
 {
-    let first = track_bars(times, tags, n, 1, spans);
     if tracks == 1 {
-        return first;
+        let w = track_walk(times, tags, n, 1, room, spans);
+        return w.ranges;
     }
+    let first = track_bars(times, tags, n, 1, spans);
     if first == 0 {
         return 0;
     }
@@ -429,6 +512,12 @@ fn common_bars(
 
 // ---- the calls
 
+fn has_track(h: Head, track: u32) -> bool
+    ensures { λ r. ⌜ r ≡ (leb 1 track && leb track (h .ntracks)) ⌝ }
+{
+    (1 <= track) & (track as usize <= h.ntracks)
+}
+
 // A track's ranges, written to a lent list of places [start, end]; the list is written only where all of them fit.
 pub fn track_ranges(h: Head, times: &Times, tags: &Tags, track: u32, list: &mut [[i64; 2]]) -> Count
     ensures { λ r. ⌜ Reported r (now (list .exit)) (trackRangesResult (length (now (list .entry))) track h (now (times .entry)) (now (tags .entry))) (now (list .entry)) ⌝ }
@@ -436,19 +525,16 @@ pub fn track_ranges(h: Head, times: &Times, tags: &Tags, track: u32, list: &mut 
     if !validation::well_formed(h, times, tags) {
         return Count::Refused(Refusal::IllFormed);
     }
-    if track < 1 {
-        return Count::Refused(Refusal::NoTrack);
-    }
-    if h.ntracks < track as usize {
+    if !has_track(h, track) {
         return Count::Refused(Refusal::NoTrack);
     }
     let mut spans = [[0i64; 2]; PLACES];
-    let n = track_bars(times, tags, h.nframes, track, &mut spans);
-    if list.len() < n {
+    let w = track_walk(times, tags, h.nframes, track, list.len(), &mut spans);
+    if list.len() < w.ranges {
         return Count::Refused(Refusal::ShortList);
     }
-    places::copy_rows(&spans, n, list);
-    Count::Done(n)
+    places::copy_rows(&spans, w.ranges, list);
+    Count::Done(w.ranges)
 }
 
 // The ranges common to all tracks, with the same care.
@@ -459,10 +545,32 @@ pub fn common_ranges(h: Head, times: &Times, tags: &Tags, list: &mut [[i64; 2]])
         return Count::Refused(Refusal::IllFormed);
     }
     let mut spans = [[0i64; 2]; PLACES];
-    let all = common_bars(times, tags, h.nframes, h.ntracks as u32, &mut spans);
+    let all = common_bars(
+        times,
+        tags,
+        h.nframes,
+        h.ntracks as u32,
+        list.len(),
+        &mut spans,
+    );
     if list.len() < all {
         return Count::Refused(Refusal::ShortList);
     }
     places::copy_rows(&spans, all, list);
     Count::Done(all)
+}
+
+// How many frames the walk of a track's report takes where so many places are lent.
+pub fn walked(h: Head, times: &Times, tags: &Tags, track: u32, room: usize) -> Count
+    ensures { λ r. ⌜ r ≡ takenCount (walkedResult room track h (now (times .entry)) (now (tags .entry))) ⌝ }
+{
+    if !validation::well_formed(h, times, tags) {
+        return Count::Refused(Refusal::IllFormed);
+    }
+    if !has_track(h, track) {
+        return Count::Refused(Refusal::NoTrack);
+    }
+    let mut spans = [[0i64; 2]; PLACES];
+    let w = track_walk(times, tags, h.nframes, track, room, &mut spans);
+    Count::Done(w.taken)
 }

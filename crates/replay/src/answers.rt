@@ -75,6 +75,12 @@ pub fn batch(accepted: usize, stop: usize, out: &mut Output) {
     text::number(stop as u64, out);
 }
 
+// How many frames a walk took.
+pub fn taken(n: usize, out: &mut Output) {
+    text::put(b" taken ", out);
+    text::number(n as u64, out);
+}
+
 // ---- the state
 
 // The kind of the track at place i, where there are more than i.

@@ -160,7 +160,8 @@ fn seconds_call(kind: u32, line: &[u8], w: Words) -> Parsed {
     })
 }
 
-fn ranges_call(line: &[u8], w: Words) -> Parsed {
+// A track's ranges, or the walk of them.
+fn ranges_call(kind: u32, line: &[u8], w: Words) -> Parsed {
     let Room::Is(places) = lent(line, w, 2, b"places=", MOST_LENT) else {
         return Parsed::Unknown;
     };
@@ -170,7 +171,7 @@ fn ranges_call(line: &[u8], w: Words) -> Parsed {
     Parsed::Call(Call {
         track,
         places,
-        ..bare(call_rows::TRACK_RANGES)
+        ..bare(kind)
     })
 }
 
@@ -211,10 +212,13 @@ pub fn call_of(line: &[u8], w: Words) -> Parsed {
         return bare_call(call_rows::READ, w);
     }
     if check::same(name, b"ranges") {
-        return ranges_call(line, w);
+        return ranges_call(call_rows::TRACK_RANGES, line, w);
     }
     if check::same(name, b"common") {
         return common_call(line, w);
+    }
+    if check::same(name, b"walked") {
+        return ranges_call(call_rows::WALKED, line, w);
     }
     Parsed::Unknown
 }

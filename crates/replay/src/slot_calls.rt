@@ -27,16 +27,23 @@ fn gives_fates(kind: u32) -> bool {
     kind <= call_rows::REMOVE
 }
 
-// Whether what a call must leave as it was still holds the marks: the places past the count in the list that it writes, and the other
+fn gives_ranges(kind: u32) -> bool {
+    if kind == call_rows::TRACK_RANGES {
+        return true;
+    }
+    kind == call_rows::COMMON_RANGES
+}
+
+// Whether what a call must leave as it was still holds the marks: the places past the count in the list that it writes, and every other
 // list whole.
 fn untouched(kind: u32, count: usize, fates: &[[u32; 2]], list: &[[i64; 2]]) -> bool {
     if gives_fates(kind) {
         return marks::marked(fates, count, list, 0);
     }
-    if kind < call_rows::TRACK_RANGES {
-        return marks::marked(fates, 0, list, 0);
+    if gives_ranges(kind) {
+        return marks::marked(fates, 0, list, count);
     }
-    marks::marked(fates, 0, list, count)
+    marks::marked(fates, 0, list, 0)
 }
 
 // What a call that was not refused answers.
@@ -55,9 +62,13 @@ fn done(kind: u32, step: Step, fates: &[[u32; 2]], list: &[[i64; 2]], out: &mut 
         text::fates(fates, step.count, out);
         return;
     }
-    if call_rows::TRACK_RANGES <= kind {
+    if gives_ranges(kind) {
         text::put(b" ", out);
         text::ranges(list, step.count, out);
+        return;
+    }
+    if kind == call_rows::WALKED {
+        answers::taken(step.count, out);
     }
 }
 

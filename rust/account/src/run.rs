@@ -165,6 +165,7 @@ impl Kept {
                 let mut list = vec![Range::default(); places];
                 Proved.common_ranges(buffer, &mut list).map(drop)
             }
+            Call::Walked(track, places) => Proved.walked(buffer, track, places).map(drop),
             // The state is looked at; the others are not made on a buffer alone.
             _ => Ok(()),
         }
@@ -468,17 +469,34 @@ mod tests {
     }
 
     #[test]
+    fn calls_that_only_read() {
+        let held = "create 0\nappend 1 0 0 100 1\nappend 1 200 100 100 0\n";
+        let [held, read] = [
+            "",
+            "settings\nranges 1\ncommon\nwalked 1 places=1\nwalked 1\nstate",
+        ]
+        .map(|calls| run(&format!("{held}{calls}")));
+        assert_eq!(in_slot(&read, 1), in_slot(&held, 1));
+        assert_eq!(reasons(&read), []);
+        assert!(read.places.replaced.is_empty());
+        assert!(read.balances());
+    }
+
+    #[test]
     fn calls_that_were_not_made() {
         let run = run("save\nrestore\npoke mode segments\nappend 1 0 0 1 1\n\
-                       segment 1 1 1 1 1 1 -\ncreate 0\nranges 2\nwindow-start -1");
+                       segment 1 1 1 1 1 1 -\nwalked 1\ncreate 0\nranges 2\nwindow-start -1\n\
+                       walked 2 places=0");
         let wanted = [
             (1, Why::NoBuffer),
             (2, Why::NothingSaved),
             (3, Why::NoBuffer),
             (4, Why::NoBuffer),
             (5, Why::Refused(12)),
-            (7, Why::Refused(3)),
-            (8, Why::Refused(6)),
+            (6, Why::NoBuffer),
+            (8, Why::Refused(3)),
+            (9, Why::Refused(6)),
+            (10, Why::Refused(3)),
         ];
         assert_eq!(reasons(&run), wanted);
         assert_eq!(run.poked(), None);

@@ -1,14 +1,18 @@
 //! Times the calls of the proved library beside those of the second implementation.
 //!
-//! Prints the table of `docs/PERFORMANCE.md`: the time of a call in microseconds, the median of
+//! Prints the tables of `docs/PERFORMANCE.md`: the time of a call in microseconds, the median of
 //! several rounds. The two take turns within a round, so that a busy moment hits both.
 //!
-//! `bench --write-segments FOLDER` times nothing and writes the segments that are timed into files.
+//! `bench --reports` times the reports of long lines alone. `bench --write-segments FOLDER` times
+//! nothing and writes the segments that are timed into files.
 
 #![forbid(unsafe_code)]
 
 mod files;
+mod line;
 mod measure;
+mod reports;
+mod rounds;
 mod segment;
 mod table;
 
@@ -21,11 +25,16 @@ use script::{Proved, Second};
 
 fn main() -> ExitCode {
     let words: Vec<String> = env::args().skip(1).collect();
+    let mut proved = Runner::new(Proved);
+    let mut second = Runner::new(Second::<()>::default());
     match words.iter().map(String::as_str).collect::<Vec<_>>()[..] {
         [] => {
-            let mut proved = Runner::new(Proved);
-            let mut second = Runner::new(Second::<()>::default());
-            print!("{}", table::report(&mut proved, &mut second));
+            println!("{}", table::report(&mut proved, &mut second));
+            print!("{}", reports::report(&mut proved, &mut second));
+            ExitCode::SUCCESS
+        }
+        ["--reports"] => {
+            print!("{}", reports::report(&mut proved, &mut second));
             ExitCode::SUCCESS
         }
         ["--write-segments", folder] => match files::write(Path::new(folder), &table::SEGMENTS) {
@@ -36,7 +45,7 @@ fn main() -> ExitCode {
             }
         },
         _ => {
-            eprintln!("usage: bench [--write-segments FOLDER]");
+            eprintln!("usage: bench [--reports | --write-segments FOLDER]");
             ExitCode::FAILURE
         }
     }

@@ -6,6 +6,7 @@ use std::time::Instant;
 use script::{row_of, Place, Subject};
 use second::{Mode, Offered, BATCH_FRAMES, BATCH_LINES, FRAME_PLACES};
 
+use crate::line::Line;
 use crate::segment::{segment, TRACK};
 
 /// A frame lasts 40 ms: 25 frames a second.
@@ -27,6 +28,9 @@ const SURVEY_KEPT: i64 = 40;
 /// Calls timed in a round, of which the median counts.
 const CALLS: usize = 200;
 
+/// The refusal of a report into too few places.
+const SHORT_LIST: u32 = 10;
+
 /// What is timed.
 #[derive(Clone, Copy, Debug, PartialEq, Eq)]
 pub enum Case {
@@ -41,6 +45,19 @@ pub enum Case {
     /// As many frames as a batch can have, after the last of a buffer of so many tracks that they
     /// fill to its last place.
     Frames(Way, u32),
+    /// A report of a line, into so many places, on a buffer that holds so many frames.
+    Report(Report, Line, usize, usize),
+}
+
+/// A report of a line.
+#[derive(Clone, Copy, Debug, PartialEq, Eq)]
+pub enum Report {
+    /// That of a track which has all the frames.
+    Track,
+    /// That of two tracks which have half of the frames each.
+    Common,
+    /// The count of the frames that a track's report takes.
+    Walked,
 }
 
 /// How several frames are appended.
@@ -230,6 +247,36 @@ impl<S: Subject> Runner<S> {
         batch.map_or(0, |batch| batch.accepted - batch.lines)
     }
 
+    /// The median time of a report of a line.
+    fn report(&mut self, report: Report, line: Line, places: usize, frames: usize) -> f64 {
+        let tracks = match report {
+            Report::Track | Report::Walked => 1,
+            Report::Common => 2,
+        };
+        let each = frames / tracks as usize;
+        let state = self.with_frames(tracks, line.frames(tracks, each));
+        let short = places < line.ranges(each);
+        let due = match report {
+            Report::Walked => Ok(if short { places + 1 } else { each }),
+            _ if short => Err(SHORT_LIST),
+            _ => Ok(line.ranges(each)),
+        };
+        let (subject, list) = (&mut self.subject, &mut self.ranges[..places]);
+        let mut time = || {
+            let start = Instant::now();
+            let said = match report {
+                Report::Track => subject.track_ranges(black_box(&state), 1, list),
+                Report::Common => subject.common_ranges(black_box(&state), list),
+                Report::Walked => subject.walked(black_box(&state), 1, places),
+            };
+            black_box(&mut *list);
+            let time = micros_since(start);
+            assert_eq!(said, due, "what is due");
+            time
+        };
+        median((0..CALLS).map(|_| time()).collect())
+    }
+
     /// The median time of listing a segment, into a list that has its places to spare.
     fn segment(&mut self, frames: u32) -> f64 {
         let segment = segment(frames);
@@ -256,6 +303,7 @@ impl<S: Subject> Measure for Runner<S> {
             Case::Survey => self.survey(),
             Case::Segment(frames) => self.segment(frames),
             Case::Frames(way, tracks) => self.frames(way, tracks),
+            Case::Report(report, line, places, frames) => self.report(report, line, places, frames),
         }
     }
 }

@@ -1,10 +1,7 @@
-//! The rounds, and the table of their medians.
+//! The tables of the calls, of segments and of batches.
 
-use std::fmt;
-
-use crate::measure::{median, Call, Case, Measure, Way};
-
-const ROUNDS: usize = 15;
+use crate::measure::{Call, Case, Measure, Way};
+use crate::rounds::{measured, ratios, Times};
 
 const TRACKS: [u32; 3] = [1, 2, 4];
 
@@ -30,29 +27,10 @@ const CALLS: [(Call, &str); 11] = [
     (Call::CommonRanges, "common ranges"),
 ];
 
-/// The median times of a case.
-#[derive(Clone, Copy)]
-struct Times {
-    proved: f64,
-    second: f64,
-}
-
-impl Times {
-    fn ratio(&self) -> f64 {
-        self.proved / self.second
-    }
-}
-
-impl fmt::Display for Times {
-    fn fmt(&self, f: &mut fmt::Formatter<'_>) -> fmt::Result {
-        let Self { proved, second } = self;
-        write!(f, "{proved:.2} / {second:.2} = {:.2}", self.ratio())
-    }
-}
-
-/// Times every case of both: the calls by tracks and sizes, the segments by their frames, a batch
-/// beside single appends by tracks, then the survey line and the creations, which have no sizes. A creation is by value there and in place
-/// here, so that its ratio says little, and is not counted among the others.
+/// Times the cases of both: the calls by tracks and sizes, the segments by their frames, a batch
+/// beside single appends by tracks, then the survey line and the creations, which have no sizes. A
+/// creation is by value there and in place here, so that its ratio says little, and is not counted
+/// among the others.
 pub fn report(proved: &mut dyn Measure, second: &mut dyn Measure) -> String {
     let mut cases = Vec::new();
     for tracks in TRACKS {
@@ -75,19 +53,17 @@ pub fn report(proved: &mut dyn Measure, second: &mut dyn Measure) -> String {
     let (singles, rest) = rest.split_at(TRACKS.len());
     let (batches, survey) = rest.split_at(TRACKS.len());
     let survey = &survey[0];
-    let ratios: Vec<f64> = compared.iter().map(Times::ratio).collect();
-    let greatest = ratios.iter().copied().fold(0.0, f64::max);
-    let middle = median(ratios);
     let creations: Vec<String> = creations.iter().map(Times::to_string).collect();
     format!(
         "{}\n{}\n{}\n\
          Survey line, one append of 100,000: {survey}.\n\
          Creation, on 1, 2 and 4 tracks: {}.\n\
-         Ratios without creation: {middle:.2} in the median, {greatest:.2} at most.\n",
+         Ratios without creation: {}.\n",
         table(calls),
         segment_table(segments),
         batch_table(singles, batches),
         creations.join(", "),
+        ratios(compared),
     )
 }
 
@@ -136,21 +112,4 @@ fn batch_table(singles: &[Times], batches: &[Times]) -> String {
         ));
     }
     text
-}
-
-/// For each case the medians of its rounds. A round goes through all cases, so that a busy moment
-/// falls on a few rounds of a case at most.
-fn measured(cases: &[Case], proved: &mut dyn Measure, second: &mut dyn Measure) -> Vec<Times> {
-    let mut rounds = vec![(Vec::new(), Vec::new()); cases.len()];
-    for _ in 0..ROUNDS {
-        for (&case, (ones, others)) in cases.iter().zip(&mut rounds) {
-            ones.push(proved.round(case));
-            others.push(second.round(case));
-        }
-    }
-    let medians = |(ones, others)| Times {
-        proved: median(ones),
-        second: median(others),
-    };
-    rounds.into_iter().map(medians).collect()
 }

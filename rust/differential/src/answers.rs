@@ -1,7 +1,8 @@
-//! Counting what the answers say: accepted and refused calls, causes, the doubles handed in, and what
-//! became of batches.
+//! Counting what the answers say: accepted and refused calls, causes, the doubles handed in, what
+//! became of batches, and what the walks of reports met.
 
 mod batches;
+mod walks;
 
 use std::collections::BTreeMap;
 use std::fmt::Write;
@@ -10,7 +11,9 @@ use script::Call;
 use second::{micros, SECONDS_LIMIT};
 
 use crate::told::fates;
+use crate::walk::Walk;
 use batches::Batches;
+use walks::Walks;
 
 /// A call of the paper, with the refusals and causes that it can give.
 struct Row {
@@ -27,7 +30,7 @@ const fn row(call: &'static str, refusals: &'static [usize], causes: &'static [u
     }
 }
 
-const ROWS: [Row; 13] = [
+const ROWS: [Row; 14] = [
     row("create", &[11], &[]),
     row("append", &[1, 2, 3, 4, 9, 7, 8], &[1, 2, 3, 4, 5]),
     row("batch", &[1, 13, 2], &[1, 2, 3, 4, 5]),
@@ -40,6 +43,7 @@ const ROWS: [Row; 13] = [
     row("settings", &[1], &[]),
     row("ranges", &[1, 3, 10], &[]),
     row("common", &[1, 10], &[]),
+    row("walked", &[1, 3], &[]),
     row(SEGMENT, &[12, 4, 10], &[]),
 ];
 
@@ -110,6 +114,7 @@ pub struct Answers {
     causes: [[u64; CAUSES]; ROWS.len()],
     doubles: [u64; DOUBLES.len()],
     batches: Batches,
+    walks: Walks,
     /// What a segment is answered whole, and what damaged: none for no refusal.
     damage: BTreeMap<[Option<u32>; 2], u64>,
 }
@@ -151,6 +156,11 @@ impl Answers {
             Ok(_) => self.accepted[row] += 1,
             Err(number) => self.refuse(row, usize::try_from(number).ok()),
         }
+    }
+
+    /// Counts a walk that was answered.
+    pub(crate) fn walk(&mut self, walk: &Walk) {
+        self.walks.count(walk);
     }
 
     /// Counts what became of a segment by its damage.
@@ -206,6 +216,7 @@ impl Answers {
             .filter(|(_, times)| *times == 0);
         gaps.extend(missed.map(|((name, _), _)| format!("seconds, {name}: never")));
         gaps.extend(self.batches.gaps());
+        gaps.extend(self.walks.gaps());
         let missed = DAMAGE
             .iter()
             .filter(|pair| !self.damage.contains_key(*pair));
@@ -239,6 +250,7 @@ impl Answers {
             let _ = writeln!(text, "| {name} | {times} |");
         }
         text.push_str(&self.batches.tables());
+        text.push_str(&self.walks.table());
         text.push_str("\n| Segment, whole | Damaged | Times |\n|---|---|---|\n");
         for ([whole, torn], times) in &self.damage {
             let _ = writeln!(text, "| {} | {} | {times} |", said(*whole), said(*torn));

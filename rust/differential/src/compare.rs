@@ -7,9 +7,10 @@ use crate::account::Accounts;
 use crate::answers::Answers;
 use crate::parting::Parting;
 use crate::singles::Singles;
+use crate::walk::Walk;
 
 /// The calls that only read.
-const READING: [&str; 5] = ["settings", "ranges", "common", "segment", "state"];
+const READING: [&str; 6] = ["settings", "ranges", "common", "walked", "segment", "state"];
 
 /// Puts a script, call by call, to two implementations; tells where they part first.
 pub fn compare<A: Subject, B: Subject>(
@@ -68,6 +69,7 @@ impl<A: Subject, B: Subject> Pair<'_, A, B> {
         self.same_states(&after, answers)?;
         if answer.starts_with("ok") {
             as_singles(call, &answer, &before, &after)?;
+            self.as_walk(call, &answer, &after, answers)?;
             self.book(call, &answer, &after, answers)?;
         }
         Ok(())
@@ -112,6 +114,34 @@ impl<A: Subject, B: Subject> Pair<'_, A, B> {
             return Err(views.each_ref().map(shown));
         }
         answers.states += 1;
+        Ok(())
+    }
+
+    /// A count of a report's frames that both answer alike is that of the walk over them, and the
+    /// report is refused 10 exactly where the walk is left early.
+    fn as_walk(
+        &mut self,
+        call: &str,
+        answer: &str,
+        views: &[Option<State>; 2],
+        answers: &mut Answers,
+    ) -> Result<(), Words> {
+        let (Some(Call::Walked(track, places)), Some(state)) = (Call::read(call), &views[0]) else {
+            return Ok(());
+        };
+        let walk = Walk::of(state, track, places);
+        if answer != walk.answer() {
+            let due = format!("frame by frame: {}", walk.answer());
+            return Err([answer.to_string(), due]);
+        }
+        let report = format!("ranges {track} places={places}");
+        let said = [self.one.answer(&report), self.other.answer(&report)];
+        let said = said.map(Option::unwrap_or_default);
+        let refused = said.each_ref().map(|said| said == "refused 10");
+        if refused != [walk.left(); 2] {
+            return Err(said.map(|said| format!("{report}: {said}, though {walk:?}")));
+        }
+        answers.walk(&walk);
         Ok(())
     }
 

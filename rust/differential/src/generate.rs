@@ -46,7 +46,8 @@ const PAST_A_BYTE: u32 = 257;
 pub fn script(seed: u64) -> Vec<String> {
     let mut writer = Writer::new(seed);
     match seed % 100 {
-        0..=18 => mixed(&mut writer),
+        0..=15 => mixed(&mut writer),
+        16..=18 => walks(&mut writer),
         19..=24 => batches(&mut writer),
         25..=39 => overlaps(&mut writer),
         40..=53 => sequence(&mut writer),
@@ -113,6 +114,30 @@ fn batches(writer: &mut Writer) {
             10 => writer.line("abort"),
             _ => writer.any_call(),
         }
+    }
+}
+
+/// Frames shown in another order than they are decoded, with gaps, equal times and overlaps, and how
+/// far a report comes among them into few places and into many.
+fn walks(writer: &mut Writer) {
+    writer.create_some();
+    for _ in 0..writer.rng.between(1, 5) {
+        match writer.rng.between(1, 10) {
+            1..=5 => writer.line_in_another_order(),
+            6..=7 => writer.batch_of_a_segment(),
+            8 => {
+                for _ in 0..writer.rng.between(1, 12) {
+                    writer.append_anywhere();
+                }
+            }
+            9 => writer.line("abort"),
+            _ => writer.remove(),
+        }
+        let track = writer.track();
+        for places in 0..writer.rng.between(2, 9) {
+            writer.line(format!("walked {track} places={places}"));
+        }
+        writer.walk();
     }
 }
 
@@ -516,12 +541,14 @@ fn refusals(writer: &mut Writer) {
                     .rng
                     .pick(&[0, 1, writer.tracks, writer.tracks + 1, PAST_A_BYTE]);
                 let places = writer.rng.pick(&[0, 1, 2, 4096]);
-                writer.line(format!("ranges {track} places={places}"));
+                let name = writer.rng.pick(&["ranges", "walked"]);
+                writer.line(format!("{name} {track} places={places}"));
             }
             10 => writer.report(),
             11 => {
                 let line = writer.rng.pick(&[
-                    "walked 1",
+                    "walked",
+                    "walked 1 fates=1",
                     "seek 1 0",
                     "room 1 0",
                     "batch 2",
@@ -586,7 +613,8 @@ fn full(writer: &mut Writer) {
             }
             9 => {
                 let places = writer.rng.pick(&[1, 255, 256, 511, 512, 1023, 1024, 4096]);
-                writer.line(format!("ranges {track} places={places}"));
+                let name = writer.rng.pick(&["ranges", "walked"]);
+                writer.line(format!("{name} {track} places={places}"));
             }
             10 => writer.line("common"),
             11 => writer.mode(),

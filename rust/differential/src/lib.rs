@@ -1,10 +1,10 @@
 //! Generated scripts, segments and lists of frames, put to two implementations of the frame buffer
 //! at once, and every answer, list and state compared. A batch is compared besides with single
-//! appends of its frames.
+//! appends of its frames, and the count of a report's frames with a walk over them and with the report.
 //!
-//! What they reached is counted: each refusal of each call, each stop of a batch, each cause, each
-//! clause of the well-formed test, each branch of the steps and of the reader of segments. A run
-//! that never reached one of them proves less than it seems to, and fails.
+//! What they reached is counted: each refusal of each call, each stop of a batch, each cause, what the
+//! walks of reports met, each clause of the well-formed test, each branch of the steps and of the
+//! reader of segments. A run that never reached one of them proves less than it seems to, and fails.
 
 #![forbid(unsafe_code)]
 
@@ -20,6 +20,7 @@ mod run;
 mod segments;
 mod singles;
 mod told;
+mod walk;
 mod writer;
 
 pub use answers::Answers;

@@ -88,7 +88,6 @@ impl Writer {
     /// A batch of frames that are not shown in the order in which they are decoded, as a segment has
     /// them: on one track, or on all of them by turns. Now and then one of them is bad.
     pub(crate) fn batch_of_a_segment(&mut self) {
-        const SHOWN: [i64; 4] = [0, 3, 1, 2]; // a picture is shown after the two that refer to it
         let start = match self.rng.percent(40) {
             true => self.last[0].0 + self.last[0].1,
             false => self.instant(),
@@ -109,11 +108,24 @@ impl Writer {
                     continue;
                 }
                 let (turn, place) = (number as usize % tracks.len(), number / tracks.len() as i64);
-                let shown = place - place % 4 + SHOWN[place as usize % 4];
-                let (pts, dts) = (start + 100 * shown, start + 100 * place);
+                let (pts, dts) = (start + 100 * shown(place), start + 100 * place);
                 writer.append(tracks[turn], pts, dts, 100, place % group == 0);
             }
         });
+    }
+
+    /// Frames of a track that are not shown in the order in which they are decoded. Some are too
+    /// short to reach the next, some reach into it, and some are there twice.
+    pub(crate) fn line_in_another_order(&mut self) {
+        let (track, start) = (self.track(), self.instant().abs());
+        for place in 0..self.rng.pick(&[4, 4, 8, 12, 25]) {
+            let (pts, dts) = (start + 100 * shown(place), start + 100 * place);
+            let times = self.rng.pick(&[1, 1, 1, 2, 3]);
+            for _ in 0..times {
+                let duration = self.rng.pick(&[100, 100, 99, 50, 150, 250]);
+                self.append(track, pts, dts, duration, place == 0);
+            }
+        }
     }
 
     /// Joins appends that follow each other to batches.
@@ -249,6 +261,9 @@ impl Writer {
     }
 
     pub(crate) fn report(&mut self) {
+        if self.rng.percent(25) {
+            return self.walk();
+        }
         let mut line = match self.rng.percent(60) {
             true => format!("ranges {}", self.track()),
             false => "common".to_string(),
@@ -258,6 +273,22 @@ impl Writer {
             line.push_str(&format!(" places={places}"));
         }
         self.line(line);
+    }
+
+    /// How far a track's report comes, into few places or into many.
+    pub(crate) fn walk(&mut self) {
+        let track = self.track();
+        let places = self.rng.pick(&[
+            "",
+            "",
+            " places=0",
+            " places=1",
+            " places=1",
+            " places=2",
+            " places=3",
+            " places=1024",
+        ]);
+        self.line(format!("walked {track}{places}"));
     }
 
     /// A segment, well-made or damaged.
@@ -347,6 +378,13 @@ impl Writer {
             u32::MAX,
         ])
     }
+}
+
+/// The place in which a frame is shown that is decoded in this one: a picture after the two that refer
+/// to it.
+fn shown(place: i64) -> i64 {
+    const SHOWN: [i64; 4] = [0, 3, 1, 2];
+    place - place % 4 + SHOWN[place as usize % 4]
 }
 
 /// A double as a script has it.

@@ -200,6 +200,20 @@ impl Buffer {
         counted(unsafe { foreign::galumper_lent_common_ranges(*head, times, tags, ranges, places) })
     }
 
+    /// How many of a track's frames [`Buffer::track_ranges`] takes, in presentation order, into a list
+    /// of so many places: all of them, or where there is one range too many, those up to and with the
+    /// first frame of that range. It is told also where the report itself is refused by
+    /// [`Refusal::ShortList`].
+    ///
+    /// # Errors
+    ///
+    /// The first of these that applies: [`Refusal::IllFormed`], [`Refusal::NoTrack`].
+    pub fn walked(&self, track: u32, places: usize) -> Result<usize, Refusal> {
+        let Self { head, times, tags } = self;
+        // SAFETY: the function takes numbers, and reads the arrays.
+        counted(unsafe { foreign::galumper_lent_walked(*head, times, tags, track, places) })
+    }
+
     /// Keeps the head that a function answered, unless it refused; gives the count.
     fn keep(&mut self, answered: Answered) -> Result<usize, Refusal> {
         let count = counted(answered.answer)?;

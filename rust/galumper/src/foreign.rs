@@ -7,9 +7,10 @@ use crate::lists::{Fate, Range};
 use crate::names::Kind;
 
 /// The number of the layout and of the functions below; the library has its own to compare.
-pub const ABI: u32 = 4;
+pub const ABI: u32 = 5;
 
-/// What a call answers: its refusal, 0 for none, and how many lines, ranges or frames it wrote.
+/// What a call answers: its refusal, 0 for none, and how many lines, ranges or frames it wrote, or
+/// of the walk, how many frames it takes.
 #[repr(C)]
 pub struct Answer {
     pub refusal: u32,
@@ -120,6 +121,13 @@ extern "C" {
         times: &Times,
         tags: &Tags,
         ranges: *mut Range,
+        places: usize,
+    ) -> Answer;
+    pub fn galumper_lent_walked(
+        head: Head,
+        times: &Times,
+        tags: &Tags,
+        track: u32,
         places: usize,
     ) -> Answer;
     pub fn galumper_lent_list_segment(

@@ -59,6 +59,9 @@ fn refused(spoilt: &Buffer) {
     assert_eq!(buffer.read_settings(), Err(ill));
     assert_eq!(buffer.track_ranges(1, &mut list), Err(ill));
     assert_eq!(buffer.common_ranges(&mut list), Err(ill));
+    for track in [0, 1] {
+        assert_eq!(buffer.walked(track, RANGES), Err(ill));
+    }
     assert_eq!(*buffer, *spoilt);
     assert_eq!((fates, list), ([FATE; FATES], [RANGE; RANGES]));
 }
@@ -121,6 +124,8 @@ fn a_track_past_a_byte() {
         assert_eq!(appended, Err(Refusal::NoTrack), "{track}");
         let reported = buffer.track_ranges(track, &mut [RANGE; RANGES]);
         assert_eq!(reported, Err(Refusal::NoTrack), "{track}");
+        let walked = buffer.walked(track, RANGES);
+        assert_eq!(walked, Err(Refusal::NoTrack), "{track}");
     }
     assert_eq!(buffer, held());
 }

@@ -78,6 +78,8 @@ fn every_call_on_a_small_stack() {
         let (mut fates, mut list) = (vec![Fate::default(); FATES], vec![Range::default(); RANGES]);
         assert_eq!(buffer.track_ranges(1, &mut list), Ok(256));
         assert_eq!(buffer.common_ranges(&mut list), Ok(256));
+        assert_eq!(buffer.walked(1, RANGES), Ok(256));
+        assert_eq!(buffer.walked(4, 100), Ok(101));
         assert_eq!(buffer.set_mode(Mode::Sequence), Ok(()));
         assert_eq!(buffer.set_mode(Mode::Segments), Ok(()));
         assert_eq!(buffer.set_offset(0.0), Ok(()));

@@ -6,7 +6,7 @@ use crate::lines::LONGEST_LINE;
 use crate::poke::Poke;
 use crate::words::{bytes, flag, mode, natural, seconds, whole};
 
-/// A call, with the lengths of the lists lent to it.
+/// A call, with the lengths of the lists lent to it or asked about.
 #[derive(Clone, Debug, PartialEq)]
 pub enum Call {
     /// Creates a buffer in the slot in use.
@@ -33,6 +33,8 @@ pub enum Call {
     Ranges(u32, usize),
     /// Reports the common ranges.
     Common(usize),
+    /// Counts the frames that a track's report takes, into a list of so many places.
+    Walked(u32, usize),
     /// Lists a track's frames from a segment.
     Segment(SegmentTrack, Vec<u8>, usize),
     /// Prints the state.
@@ -50,14 +52,15 @@ pub enum Call {
 /// No list that a script lends is longer than this.
 const LONGEST_LIST: usize = 4096;
 
-/// The calls that are lent a list: the word `name=K` that says how long it is, and its length where
-/// that is left out.
-const LENT: [(&str, &str, usize); 6] = [
+/// The calls that are lent a list, or asked about one: the word `name=K` that says how long it is, and
+/// its length where that is left out.
+const LENT: [(&str, &str, usize); 7] = [
     ("append", "fates", FRAME_PLACES),
     ("remove", "fates", FRAME_PLACES),
     (BATCH, "fates", BATCH_LINES),
     ("ranges", "places", LONGEST_LIST),
     ("common", "places", LONGEST_LIST),
+    ("walked", "places", LONGEST_LIST),
     ("segment", "places", LONGEST_LIST),
 ];
 
@@ -100,6 +103,7 @@ impl Call {
             ["settings"] => Self::Settings,
             ["ranges", track] => Self::Ranges(natural(track)?, length),
             ["common"] => Self::Common(length),
+            ["walked", track] => Self::Walked(natural(track)?, length),
             ["segment", id, track, timescale, duration, size, flags, segment] => Self::Segment(
                 SegmentTrack {
                     id: whole(id)?,
@@ -128,8 +132,8 @@ fn words(line: &str) -> Option<Vec<&str>> {
     (line.len() <= LONGEST_LINE).then(|| line.split(' ').collect())
 }
 
-/// The length of the list that a call is lent, whose word is taken off the end if it is there; 0 for
-/// a call that is lent none.
+/// The length of the list that a call is lent or asked about, whose word is taken off the end if it is
+/// there; 0 for a call that has none.
 fn lent(words: &mut Vec<&str>) -> Option<usize> {
     let row = LENT.iter().find(|(call, ..)| words.first() == Some(call));
     let Some((_, name, default)) = row else {
@@ -193,6 +197,34 @@ mod tests {
             "common places=7 fates=7",
             "abort fates=7",
             "create places=7",
+        ] {
+            assert_eq!(Call::read(bad), None, "{bad}");
+        }
+    }
+
+    #[test]
+    fn how_far_a_report_comes() {
+        for (line, track, places) in [
+            ("walked 1", 1, 4096),
+            ("walked 0 places=0", 0, 0),
+            ("walked 3 places=4096", 3, 4096),
+            ("walked 99999999999 places=007", u32::MAX, 7),
+        ] {
+            assert_eq!(
+                Call::read(line),
+                Some(Call::Walked(track, places)),
+                "{line}"
+            );
+        }
+        for bad in [
+            "walked",
+            "walked -1",
+            "walked 1 1",
+            "walked 1 fates=7",
+            "walked 1 places=4097",
+            "walked 1 places=-1",
+            "walked places=7",
+            "walked 1 places=7 places=7",
         ] {
             assert_eq!(Call::read(bad), None, "{bad}");
         }

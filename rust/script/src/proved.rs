@@ -125,6 +125,10 @@ impl Subject for Proved {
         numbered(buffer.common_ranges(list))
     }
 
+    fn walked(&mut self, buffer: &Self::State, track: u32, places: usize) -> Result<usize, u32> {
+        numbered(buffer.walked(track, places))
+    }
+
     fn list_segment(
         &mut self,
         of: SegmentTrack,

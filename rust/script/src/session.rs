@@ -109,6 +109,7 @@ impl<'a, S: Subject> Session<'a, S> {
                 let result = subject.common_ranges(slot.as_ref()?, self.ranges.lend(length));
                 self.ranges.answer(result, "ranges", stretch)
             }
+            Call::Walked(track, places) => taken(subject.walked(slot.as_ref()?, track, places)),
             Call::Segment(of, segment, length) => {
                 let result = subject.list_segment(of, &segment, self.rows.lend(length));
                 self.rows.answer(result, "samples", row)
@@ -138,6 +139,13 @@ fn done(result: Result<(), u32>) -> String {
     match result {
         Ok(()) => "ok".to_string(),
         Err(refusal) => format!("refused {refusal}"),
+    }
+}
+
+fn taken(result: Result<usize, u32>) -> String {
+    match result {
+        Ok(frames) => format!("ok taken {frames}"),
+        Err(refusal) => done(Err(refusal)),
     }
 }
 
@@ -277,8 +285,35 @@ mod tests {
     }
 
     #[test]
+    fn how_far_a_report_comes() {
+        let script = "walked 1\ncreate 0 1\nwalked 1 places=0\nappend 1 0 0 100 1\n\
+                      append 1 300 100 100 0\nappend 1 100 200 100 0\nappend 1 500 300 100 0\n\
+                      walked 1\nwalked 1 places=1\nranges 1 places=1\nwalked 1 places=0\n\
+                      walked 2\nwalked 3 places=0\npoke tracks 5\nwalked 3 places=0";
+        let wanted = [
+            "none",
+            "ok",
+            "ok taken 0",
+            "ok fates",
+            "ok fates",
+            "ok fates",
+            "ok fates",
+            "ok taken 4",
+            "ok taken 3",
+            "refused 10",
+            "ok taken 1",
+            "ok taken 0",
+            "refused 3",
+            "ok",
+            "refused 1",
+        ];
+        assert_eq!(answers(script), wanted);
+        assert_eq!(answers_of(&mut Proved, script), wanted);
+    }
+
+    #[test]
     fn calls_that_are_not_built() {
-        assert_eq!(answers("walked 1\nseek 1 0"), ["unknown", "unknown"]);
+        assert_eq!(answers("seek 1 0\nroom 1 0"), ["unknown", "unknown"]);
     }
 
     #[test]

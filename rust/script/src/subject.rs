@@ -73,6 +73,8 @@ pub trait Subject {
         state: &Self::State,
         list: &mut [Self::Stretch],
     ) -> Result<usize, u32>;
+    /// Counts the frames that a track's report takes, into a list of so many places.
+    fn walked(&mut self, state: &Self::State, track: u32, places: usize) -> Result<usize, u32>;
     /// Lists a track's frames from a segment. No buffer takes part in it.
     fn list_segment(
         &mut self,
@@ -198,6 +200,10 @@ impl<T: Trace> Subject for Second<T> {
 
     fn common_ranges(&mut self, state: &State, list: &mut [Stretch]) -> Result<usize, u32> {
         numbered(second::common_ranges(state, list))
+    }
+
+    fn walked(&mut self, state: &State, track: u32, places: usize) -> Result<usize, u32> {
+        numbered(second::walked(state, track, places))
     }
 
     fn list_segment(

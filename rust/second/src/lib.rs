@@ -30,7 +30,7 @@ pub use append::{append, append_traced};
 pub use batch::{append_batch, append_batch_traced, Batch, BATCH_FRAMES, BATCH_LINES};
 pub use fault::Fault;
 pub use numbers::{micros, quotient, LONGEST_DURATION, OFFERED_LIMIT, RESULT_LIMIT, SECONDS_LIMIT};
-pub use ranges::{common_ranges, track_ranges, Stretch};
+pub use ranges::{common_ranges, track_ranges, walked, Stretch};
 pub use refusal::{Cause, Fate, Refusal};
 pub use remove::{abort, remove, remove_traced};
 pub use seconds::{End, Seconds, Settings};

@@ -1,7 +1,8 @@
-//! "The bar on the timeline": the stretches that a track's frames cover, and those that all do.
+//! "The bar on the timeline": the stretches that a track's frames cover, and those that all do; and
+//! document 02, No. 3: how many frames a track's report takes until its list is too short.
 
 use crate::refusal::Refusal;
-use crate::state::State;
+use crate::state::{Frame, State};
 use crate::well_formed::check;
 
 /// A stretch of time: its start, and its end that no longer belongs to it.
@@ -11,7 +12,7 @@ pub type Stretch = [i64; 2];
 pub fn track_ranges(state: &State, track: u32, list: &mut [Stretch]) -> Result<usize, Refusal> {
     check(state)?;
     state.head.track_index(track)?;
-    hand_out(&covered(state, track), list)
+    hand_out(&covered(frames_of(state, track)), list)
 }
 
 /// Writes the ranges that all tracks cover in rising order; gives their count.
@@ -20,10 +21,28 @@ pub fn common_ranges(state: &State, list: &mut [Stretch]) -> Result<usize, Refus
     let common = state
         .head
         .track_numbers()
-        .map(|track| covered(state, track))
+        .map(|track| covered(frames_of(state, track)))
         .reduce(|ones, others| shared(&ones, &others))
         .unwrap_or_default();
     hand_out(&common, list)
+}
+
+/// How many of a track's frames its report takes in presentation order, into a list of so many
+/// places: all of them, or where there is one range too many, those up to and with its first. What
+/// comes before that one is presented before the range starts, and nothing else is.
+pub fn walked(state: &State, track: u32, places: usize) -> Result<usize, Refusal> {
+    check(state)?;
+    state.head.track_index(track)?;
+    let frames = frames_of(state, track);
+    Ok(match covered(frames).get(places) {
+        Some([start, _]) => 1 + frames.iter().filter(|frame| frame.pts < *start).count(),
+        None => frames.len(),
+    })
+}
+
+/// A track's frames, in store order.
+fn frames_of(state: &State, track: u32) -> &[Frame] {
+    &state.frames[state.places_of(track)]
 }
 
 /// Refusal 10, or the ranges and nothing past them.
@@ -33,10 +52,9 @@ fn hand_out(ranges: &[Stretch], list: &mut [Stretch]) -> Result<usize, Refusal> 
     Ok(ranges.len())
 }
 
-/// The widest unbroken stretches of a track. Frames mostly come in order and join as they come;
-/// only what is left in pieces out of order has to be sorted and joined again.
-fn covered(state: &State, track: u32) -> Vec<Stretch> {
-    let frames = &state.frames[state.places_of(track)];
+/// The widest unbroken stretches of a track's frames. They mostly come in order and join as they
+/// come; only what is left in pieces out of order has to be sorted and joined again.
+fn covered(frames: &[Frame]) -> Vec<Stretch> {
     let mut stretches = join(frames.iter().map(|frame| [frame.pts, frame.end()]));
     if !stretches.is_sorted() {
         stretches.sort_unstable();

@@ -1,6 +1,7 @@
-//! The reports against the timeline itself, microsecond by microsecond.
+//! The reports against the timeline itself, microsecond by microsecond, and how many frames they take
+//! against a walk, frame by frame.
 
-use second::{common_ranges, create, track_ranges, Frame, State, Stretch, FRAME_PLACES};
+use second::{common_ranges, create, track_ranges, walked, Frame, State, Stretch, FRAME_PLACES};
 
 const END: i64 = 400;
 
@@ -70,5 +71,41 @@ fn reports_are_what_the_frames_cover() {
         let count = common_ranges(&state, &mut list).expect("common ranges");
         let common = stretches(|instant| tracks.clone().all(|track| covers(track, instant)));
         assert_eq!(list[..count], common);
+    }
+}
+
+/// How many of these frames, which are in presentation order, are taken until a range is begun that
+/// has no place.
+fn taken(frames: &[Frame], places: usize) -> usize {
+    let mut ranges = 0;
+    let mut end = i64::MIN;
+    for (place, frame) in frames.iter().enumerate() {
+        ranges += usize::from(frame.pts > end);
+        if ranges > places {
+            return place + 1;
+        }
+        end = end.max(frame.end());
+    }
+    frames.len()
+}
+
+#[test]
+fn the_walk_takes_frames_until_a_range_has_no_place() {
+    let mut numbers = Numbers(2);
+    for _ in 0..500 {
+        let state = scattered(&mut numbers);
+        for track in 1..=state.head.track_count as u32 {
+            let stored = state.frames[..state.frame_count].iter();
+            let mut frames: Vec<Frame> = stored.filter(|f| f.track == track).copied().collect();
+            frames.sort_by_key(|frame| frame.pts);
+            let mut turned = frames.clone();
+            turned.reverse();
+            turned.sort_by_key(|frame| frame.pts);
+            for places in 0..=frames.len() + 1 {
+                let wanted = taken(&frames, places);
+                assert_eq!(taken(&turned, places), wanted, "equal times, turned");
+                assert_eq!(walked(&state, track, places), Ok(wanted));
+            }
+        }
     }
 }

@@ -1,5 +1,5 @@
 -- By the kind of call: what the part for that kind says.
-use Rattle.call_rows.proofs.ReplyLaws.{made-lines, made-change, made-reading, made-ranges, made-batch}
+use Rattle.call_rows.proofs.ReplyLaws.{made-lines, made-change, made-reading, made-ranges, made-batch, made-walk}
 use Rattle.call_rows.specs.Replies.{lent}
 use borrow.Author.Needs.{needs}
 use Rattle.call_rows.proofs.make_call.Statement.{statement}
@@ -69,7 +69,7 @@ returns-4 c =
     let e = t .before in
     let a = e .before .before .before .args in
     made-ranges (lent (a .h) (a .times .now) (a .tags .now)) (a .t2) (a .stamps) (a .t4) (a .frames .now) (a .fates .now) (a .fates .now) (a .list .now) (l .ranges-step .last .1 .1 .1 .1 .0)
-    (e .before .if2 .left) (e .if3 .left) (l .ranges-step .result) (t .if4 .taken) (l .ranges-step .ensures)
+    (l .ranges-step .result) (e .before .if2 .left) (e .if3 .left) (t .if4 .taken) (l .ranges-step .ensures)
 
 batch-step-requires : tie.Need-batch-step-requires
 batch-step-requires c κs = search needs
@@ -81,10 +81,22 @@ returns-5 : tie.Need-returns-5
 returns-5 c =
     let l = c .before in
     let t = l .before .before .before .before in
-    let e = t .before in
-    let a = e .before .before .before .args in
+    let a = t .before .before .before .before .before .args in
     made-batch (lent (a .h) (a .times .now) (a .tags .now)) (a .t2) (a .stamps) (a .t4) (a .frames .now) (a .fates .now) (l .batch-step .last .1 .1 .1 .1 .0) (a .list .now) (a .list .now)
-    (e .before .if2 .left) (e .if3 .left) (l .batch-step .result) (l .batch-step .last .1 .1 .0) (l .batch-step .last .1 .1 .1 .0) (t .if4 .left) (l .batch-step .ensures)
+    (l .batch-step .result) (l .batch-step .last .1 .1 .0) (l .batch-step .last .1 .1 .1 .0) (t .if5 .taken) (l .batch-step .ensures)
+
+array-read-walked-step : tie.Need-array-read-walked-step
+array-read-walked-step c = search needs
+
+walked-step-requires : tie.Need-walked-step-requires
+walked-step-requires c κs = search needs
+
+returns-6 : tie.Need-returns-6
+returns-6 c =
+    let t = c .before .before .before in
+    let a = t .before .before .before .before .before .args in
+    made-walk (lent (a .h) (a .times .now) (a .tags .now)) (a .t2) (a .stamps) (a .t4) (a .frames .now) (a .fates .now) (a .fates .now) (a .list .now) (a .list .now)
+    (c .walked-step .result) (t .before .if4 .left) (t .if5 .left) (c .walked-step .ensures)
 
 pub make-call-spec : {M : Type 1} → statement M
 make-call-spec =
@@ -107,4 +119,7 @@ make-call-spec =
     returns-4
     batch-step-requires
     same-length-3
-    returns-5)
+    returns-5
+    array-read-walked-step
+    walked-step-requires
+    returns-6)

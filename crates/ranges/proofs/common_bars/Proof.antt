@@ -15,18 +15,19 @@ use Rattle.ranges.specs.Bars.{stored, Shows}
 use Rattle.ranges.specs.Sweep.{timely, sound}
 use Rattle.ranges.proofs.BarLaws.{shown}
 use Rattle.ranges.proofs.StoredLaws.{stored-length}
-use Rattle.ranges.proofs.CountLaws.{upTo, up-all, first-few, next-few, common-next, none-shown, one-shown}
+use Rattle.ranges.proofs.CountLaws.{upTo, up-all, first-few, next-few, common-next, none-shown, one-common}
+use Rattle.ranges.proofs.TrackLaws.{shown-bars}
 use borrow.Author.Needs.{needs}
 use Rattle.ranges.proofs.common_bars.Statement.{statement}
 use Rattle.ranges.proofs.common_bars.Tie as tie
 
 abbrev Inv-loop : tie.InvT-loop
-Inv-loop times tags n tracks spans₀ first more₀ count₀ t₀ spans more count t =
+Inv-loop times tags n tracks room spans₀ first more₀ count₀ t₀ spans more count t =
     (1 ≤ t) × (t ≤ tracks) × (length spans ≡ places) × (length more ≡ places)
     × Shows spans count (commonRangesOf t (stored times tags n)) × (count ≤ upTo t (stored times tags n))
 
 abbrev μ-loop : tie.MeasureT-loop
-μ-loop times tags n tracks spans₀ first more₀ count₀ t₀ spans more count t = tracks - t
+μ-loop times tags n tracks room spans₀ first more₀ count₀ t₀ spans more count t = tracks - t
 
 -- where the function begins, and the stored frames
 abbrev start : tie.At-loop Inv-loop μ-loop → tie.Start Inv-loop μ-loop
@@ -35,37 +36,41 @@ start d = d .before .before .before .before .before .before
 abbrev held : tie.Start Inv-loop μ-loop → List Frame
 held s = stored (s .args .times .now) (s .args .tags .now) (s .args .n)
 
-track-bars-requires : tie.Need-track-bars-requires Inv-loop μ-loop
-track-bars-requires c κs = (c .before .pre .0, c .before .pre .3)
+track-walk-requires : tie.Need-track-walk-requires Inv-loop μ-loop
+track-walk-requires c κs = let s = c .before .before in (s .pre .0, omega arith, s .pre .3)
 
 same-length : tie.Need-same-length Inv-loop μ-loop
 same-length c = search needs
 
 returns : tie.Need-returns Inv-loop μ-loop
 returns c =
-    let b = c .before .before in
-    let s = b .before .before in
-    one-shown (s .args .tracks) (held s) (c .if1 .taken) (b .track-bars .ensures)
+    let w = c .before in
+    let t = w .before .before in
+    let s = t .before in
+    rw (one-common (s .args .tracks) (held s) (t .if1 .taken)) (w .track-walk .ensures .1)
+
+track-bars-requires : tie.Need-track-bars-requires Inv-loop μ-loop
+track-bars-requires c κs = let s = c .before .before in (s .pre .0, omega arith, s .pre .3)
 
 same-length-2 : tie.Need-same-length-2 Inv-loop μ-loop
 same-length-2 c = search needs
 
 returns-2 : tie.Need-returns-2 Inv-loop μ-loop
 returns-2 c =
-    let b = c .before .before .before in
-    let s = b .before .before in
-    none-shown _ (s .args .tracks) (held s) (s .pre .1) (sym (c .if2 .taken) ∙ b .track-bars .ensures .count)
+    let b = c .before .before in
+    let s = b .before .before .before in
+    shown-bars (s .args .room) (none-shown _ (s .args .tracks) (held s) (s .pre .1) (sym (c .if2 .taken) ∙ b .track-bars .ensures .count))
 
 loop-holds : tie.Need-loop-holds Inv-loop μ-loop
 loop-holds c =
-    let b = c .before .before .before in
-    let s = b .before .before in
+    let b = c .before .before in
+    let s = b .before .before .before in
     let shows = b .track-bars .ensures in (
       search needs,
       s .pre .1,
       b .track-bars .kept .1 .1 .1 .1 .0 ∙ s .pre .3,
       refl,
-      one-shown 1 (held s) refl shows,
+      rw (one-common 1 (held s) refl) shows,
       omega (arith, shows .count, first-few (held s)),
     )
 
@@ -76,7 +81,10 @@ slice-aggregate-track-bars : tie.Need-slice-aggregate-track-bars Inv-loop μ-loo
 slice-aggregate-track-bars c = search needs
 
 track-bars-requires-2 : tie.Need-track-bars-requires-2 Inv-loop μ-loop
-track-bars-requires-2 c κs = let d = c .before .before in (start d .pre .0, d .loop .inv .3)
+track-bars-requires-2 c κs =
+    let d = c .before .before in
+    let s = start d in
+    (s .pre .0, omega (arith, s .pre .2, c .before .loop-test .taken), d .loop .inv .3)
 
 slice-aggregate-both-bars : tie.Need-slice-aggregate-both-bars Inv-loop μ-loop
 slice-aggregate-both-bars c = search needs
@@ -133,7 +141,7 @@ returns-3 c =
     let d = c .before in
     let s = start d in
     let e : d .loop .t ≡ s .args .tracks = omega arith in
-    rw e at (d .loop .inv .4)
+    shown-bars (s .args .room) (rw e at (d .loop .inv .4))
 
 pub common-bars-spec : {M : Type 1} → statement M
 common-bars-spec =
@@ -141,9 +149,10 @@ common-bars-spec =
     (tie.spec
     Inv-loop
     μ-loop
-    track-bars-requires
+    track-walk-requires
     same-length
     returns
+    track-bars-requires
     same-length-2
     returns-2
     loop-holds

@@ -48,13 +48,17 @@ returns-2 c =
     let e = b .before .before .before .before .before in
     let a = e .before .before .args in
     refused-reported ShortList (now (a .list))
-    (common-short (length (now (a .list))) (a .h) (now (a .times)) (now (a .tags)) (well e) (rw (b .common-bars .ensures .count) at (c .if2 .taken)))
+    (common-short (length (now (a .list))) (a .h) (now (a .times)) (now (a .tags)) (well e) (b .common-bars .ensures .over (c .if2 .taken)))
 
 slice-aggregate-copy-rows : tie.Need-slice-aggregate-copy-rows
 slice-aggregate-copy-rows c = search needs
 
 copy-rows-requires : tie.Need-copy-rows-requires
-copy-rows-requires c κs = search needs
+copy-rows-requires c κs =
+    let f = c .before .before in
+    let b = f .before .before in
+    let shows = b .common-bars .ensures .shows (f .if2 .left) in
+    (omega (arith, shows .few, b .common-bars .kept .1 .1 .1 .1 .1 .0), f .if2 .left)
 
 same-length : tie.Need-same-length
 same-length c = search needs
@@ -66,7 +70,7 @@ returns-3 c =
     let b = f .before .before in
     let e = b .before .before .before .before .before in
     let a = e .before .before .args in
-    let shows = b .common-bars .ensures in
+    let shows = b .common-bars .ensures .shows (f .if2 .left) in
     done-reported _ (now (a .list))
     (common-reported (length (now (a .list))) (a .h) (now (a .times)) (now (a .tags)) (well e) (rw (shows .count) at (f .if2 .left))) shows (w .copy-rows .ensures)
 

@@ -3,15 +3,17 @@
 
 mod batches;
 mod segments;
+mod walks;
 
 use batches::WrongBatch;
-use differential::{run, Failure, Plan};
+use differential::{run, Answers, Failure, Plan};
 use script::{Batch, Declined, Poke, Second, Subject};
 use second::{
     micros, Branch, Fate, Frame, Maybe, Mode, Offered, Reading, Row, SegmentTrack, State, Stretch,
     Trace, SECONDS_LIMIT,
 };
 use segments::WrongSegment;
+use walks::WrongWalk;
 
 /// What a build does wrongly.
 #[derive(Clone, Copy, Debug, PartialEq, Eq)]
@@ -34,6 +36,7 @@ enum Wrong {
     DeclinesPokes,
     Batch(WrongBatch),
     Segment(WrongSegment),
+    Walk(WrongWalk),
 }
 
 /// The build: `second`, and the wrong laid over it.
@@ -175,6 +178,13 @@ impl Subject for Build {
         }
     }
 
+    fn walked(&mut self, state: &State, track: u32, places: usize) -> Result<usize, u32> {
+        match self.wrong {
+            Wrong::Walk(wrong) => wrong.walk(state, track, places),
+            _ => self.second.walked(state, track, places),
+        }
+    }
+
     fn list_segment(
         &mut self,
         of: SegmentTrack,
@@ -263,20 +273,29 @@ fn first_pass_only(
     result
 }
 
-fn put_to(wrong: Wrong) -> Result<(), Failure> {
+/// What is put to a wrong build.
+fn plan(wrong: Wrong) -> Plan {
     let (scripts, segments, rows) = match wrong {
         Wrong::Segment(_) => (0, 3_000, 0),
         Wrong::Batch(wrong) if wrong.shows_in_rows() => (0, 0, 3_000),
         _ => (3_000, 0, 0),
     };
-    let plan = Plan {
+    Plan {
         seed: 0,
         scripts,
         segments,
         rows,
-    };
+    }
+}
+
+fn put_to(wrong: Wrong) -> Result<(), Failure> {
     let mut one: Second = Second::default();
-    run(plan, &mut one, &mut Build::new(wrong)).map(|_| ())
+    run(plan(wrong), &mut one, &mut Build::new(wrong)).map(|_| ())
+}
+
+/// The same wrong build on both sides.
+fn put_to_both(wrong: Wrong) -> Result<Answers, Failure> {
+    run(plan(wrong), &mut Build::new(wrong), &mut Build::new(wrong))
 }
 
 #[test]
@@ -311,6 +330,29 @@ fn every_wrong_batch_is_caught_by_a_short_script() {
         println!("{wrong:?}: {failure}\n");
         assert!(failure.script.len() <= 8, "{wrong:?}: {failure}");
     }
+}
+
+#[test]
+fn every_wrong_walk_is_caught_by_a_short_script() {
+    for wrong in WrongWalk::ALL {
+        let failure = put_to(Wrong::Walk(wrong)).expect_err("a difference");
+        println!("{wrong:?}: {failure}\n");
+        assert!(failure.script.len() <= 8, "{wrong:?}: {failure}");
+    }
+}
+
+#[test]
+fn a_walk_that_both_get_wrong_is_caught() {
+    let failure = put_to_both(Wrong::Walk(WrongWalk::ForgetsTheFrameTooMany));
+    let parting = failure.expect_err("a walk of another length").parting;
+    assert!(parting.other.starts_with("frame by frame: "), "{parting}");
+
+    let answers = put_to_both(Wrong::Walk(WrongWalk::RefusesAShortList));
+    let gaps = answers.expect("no difference").gaps();
+    let undue = gaps
+        .iter()
+        .any(|gap| gap.starts_with("walked refused 10: "));
+    assert!(undue, "{}", gaps.join("\n"));
 }
 
 #[test]

@@ -57,6 +57,10 @@ int main(void) {
     tell_ranges("ranges of track 1", galumper_track_ranges(&buffer, 1, ranges, GALUMPER_RANGES));
     tell_ranges("ranges of track 2", galumper_track_ranges(&buffer, 2, ranges, GALUMPER_RANGES));
     tell_ranges("common ranges", galumper_common_ranges(&buffer, ranges, GALUMPER_RANGES));
+    tell("walk of track 1", galumper_walked(&buffer, 1, GALUMPER_RANGES));
+    tell("walk of track 2", galumper_walked(&buffer, 2, GALUMPER_RANGES));
+    tell("walk of track 1 without places", galumper_walked(&buffer, 1, 0));
+    tell("walk of track 3", galumper_walked(&buffer, 3, 0));
     tell_fates("remove", galumper_remove(&buffer, 1.3, INFINITY, fates, GALUMPER_FATES));
     tell("abort", galumper_abort(&buffer));
     tell_settings();

@@ -23,6 +23,10 @@ ranges of track 2: refused 0, count 1; 3 frames, mode 0, group start set
   from 1200000 to 2200000
 common ranges: refused 0, count 1; 3 frames, mode 0, group start set
   from 1200000 to 2200000
+walk of track 1: refused 0, count 2; 3 frames, mode 0, group start set
+walk of track 2: refused 0, count 1; 3 frames, mode 0, group start set
+walk of track 1 without places: refused 0, count 1; 3 frames, mode 0, group start set
+walk of track 3: refused 3, count 0; 3 frames, mode 0, group start set
 remove: refused 0, count 1; 2 frames, mode 0, group start set
   frame 2, cause 6
 abort: refused 0, count 0; 2 frames, mode 0, group start set

@@ -29,7 +29,7 @@ fn calls(header: &str) -> Vec<(String, String)> {
 #[test]
 fn every_call_with_its_refusals() {
     let (calls, document) = (calls(&header()), document());
-    assert_eq!(calls.len(), 14);
+    assert_eq!(calls.len(), 15);
     for (name, order) in calls {
         let (start, end) = (format!("| `{name}` | "), format!(" | {order} |"));
         let mut rows = document.lines().filter(|row| row.starts_with(&start));

@@ -6,7 +6,7 @@ use std::path::PathBuf;
 
 use crate::compiler::{build, folder, include, source, written_watched};
 
-const ABI: [&str; 2] = ["#define GALUMPER_ABI 4\n", "#define GALUMPER_ABI 5\n"];
+const ABI: [&str; 2] = ["#define GALUMPER_ABI 5\n", "#define GALUMPER_ABI 6\n"];
 const SIZE: [&str; 2] = [
     "#define GALUMPER_SIZE 32968\n",
     "#define GALUMPER_SIZE 16584\n",

@@ -4,7 +4,7 @@
 #include <stdlib.h>
 
 uint32_t galumper_abi(void) {
-    return 5;
+    return 6;
 }
 
 size_t galumper_size(void) {
@@ -28,4 +28,5 @@ ENDS(set_window_end)
 ENDS(read_settings)
 ENDS(track_ranges)
 ENDS(common_ranges)
+ENDS(walked)
 ENDS(list_segment)
