@@ -1,7 +1,7 @@
 /* Galumper: the frame buffer of the review console, for C11 and C++17. Link target/staticlib/libgalumper.a, which is for x86-64
  * Linux (docs/EMBEDDING.md).
  *
- * The program owns a buffer, a galumper_buffer of 33 KB, and lends it to each call by its address; the call works in place. The
+ * The program owns a buffer, a galumper_buffer of 37 KB, and lends it to each call by its address; the call works in place. The
  * library keeps nothing and allocates nothing.
  *
  * Any bits may be handed in. A buffer that is not well-formed has the call refused 1; an offered frame whose flag is neither 0
@@ -27,11 +27,11 @@ extern "C" {
 #endif
 
 /* The version of this header, of its library and of the Rust crate. */
-#define GALUMPER_VERSION "0.5.0"
+#define GALUMPER_VERSION "0.6.0"
 
 /* By these two a library belongs to this header: the number of its layout and functions, and the bytes of a galumper_buffer. */
-#define GALUMPER_ABI 5
-#define GALUMPER_SIZE 32968
+#define GALUMPER_ABI 6
+#define GALUMPER_SIZE 37064
 
 /* The places of the store over all tracks. */
 #define GALUMPER_PLACES 1024
@@ -74,7 +74,8 @@ enum galumper_refusal {
     GALUMPER_ORDER = 6,         /* a window or a removal whose start does not come before its end, or is negative: in microseconds */
     GALUMPER_RESULT_LIMITS = 7, /* a time that would lie beyond 4,000,000,000,000 either way, with the timestamp offset added */
     GALUMPER_FULL = 8,          /* no place for the frame, counting those that its append frees; a dropped frame needs none */
-    GALUMPER_LAST_NUMBER = 9,   /* no frame number left to give: the last is 4,294,967,295 */
+    GALUMPER_LAST_NUMBER = 9,   /* no frame number left to give, or no group number where the call would begin a group: the last of
+                                 * either is 4,294,967,295 */
     GALUMPER_SHORT_LIST = 10,   /* more ranges or frames than the lent list has places */
     GALUMPER_KINDS = 11,        /* creation with no track, more than four, or an unknown kind */
     GALUMPER_MALFORMED = 12,    /* a segment with a box that overruns, is too short, has size 0 or an unknown version; or with a movie
@@ -90,7 +91,7 @@ enum galumper_cause {
     GALUMPER_AFTER_WINDOW = 2,  /* dropped: it ends after the append window */
     GALUMPER_NEEDS_POINT = 3,   /* dropped: its track waits for a random access point */
     GALUMPER_OVERLAPPED = 4,    /* removed: the appended frame took its place */
-    GALUMPER_DEPENDED = 5,      /* removed: it depended on a frame that was removed */
+    GALUMPER_DEPENDED = 5,      /* removed: it depended on a frame of its group that was removed */
     GALUMPER_REMOVED = 6        /* removed: by a removal, as it begins in the stretch that goes */
 };
 
@@ -106,9 +107,11 @@ typedef struct galumper_track {
     int64_t end;
 } galumper_track;
 
-/* Where the next group of frames starts, if `begun`, and the end of the group so far. */
+/* Where the next group of frames starts, if `begun`, the number of the group, and its end so far. The number is 0 at first, and one
+ * more after each break, each abort, and each removal that takes a frame with its track's last decode timestamp. */
 typedef struct galumper_group {
-    uint64_t begun;
+    uint32_t begun;
+    uint32_t number;
     int64_t start;
     int64_t end;
 } galumper_group;
@@ -140,12 +143,13 @@ typedef struct galumper_head {
 
 /* A buffer. A stored coded frame has a row in `times` and one in `tags`, at the same place: `head.nframes` of them, sorted by
  * track, decode time and number, and zeros after them. The flag is 1 for a random access point; numbers are given from 1 in the
- * order of the appends. A buffer may be read, copied and kept as any struct. No byte of it is padding: two buffers are the same
- * exactly when memcmp says so, and its bytes may be saved and loaded (ask galumper_matches before a loaded one is used). */
+ * order of the appends; the group is the one in which the frame was stored, and none is above `head.group.number`. A buffer may be
+ * read, copied and kept as any struct. No byte of it is padding: two buffers are the same exactly when memcmp says so, and its bytes
+ * may be saved and loaded (ask galumper_matches before a loaded one is used). */
 typedef struct galumper_buffer {
     galumper_head head;
     int64_t times[GALUMPER_PLACES][2]; /* presentation and decode timestamp, with the timestamp offset added */
-    uint32_t tags[GALUMPER_PLACES][4]; /* track, flag, duration, number */
+    uint32_t tags[GALUMPER_PLACES][5]; /* track, flag, duration, number, group */
 } galumper_buffer;
 
 /* ---- what a call takes and answers */
@@ -231,35 +235,35 @@ typedef struct galumper_batched {
 uint32_t galumper_abi(void);
 size_t galumper_size(void);
 galumper_answered galumper_lent_create(const uint8_t *kinds, size_t ntracks, int64_t times[GALUMPER_PLACES][2],
-                                       uint32_t tags[GALUMPER_PLACES][4]);
+                                       uint32_t tags[GALUMPER_PLACES][5]);
 galumper_answered galumper_lent_append(galumper_head head, galumper_offered frame, int64_t times[GALUMPER_PLACES][2],
-                                       uint32_t tags[GALUMPER_PLACES][4], galumper_fate *fates, size_t lines);
+                                       uint32_t tags[GALUMPER_PLACES][5], galumper_fate *fates, size_t lines);
 galumper_batched galumper_lent_append_batch(galumper_head head, const galumper_listed_frame *frames, size_t nframes,
-                                            int64_t times[GALUMPER_PLACES][2], uint32_t tags[GALUMPER_PLACES][4],
+                                            int64_t times[GALUMPER_PLACES][2], uint32_t tags[GALUMPER_PLACES][5],
                                             galumper_fate *fates, size_t lines);
 galumper_answered galumper_lent_remove(galumper_head head, double start, double end, int64_t times[GALUMPER_PLACES][2],
-                                       uint32_t tags[GALUMPER_PLACES][4], galumper_fate *fates, size_t lines);
+                                       uint32_t tags[GALUMPER_PLACES][5], galumper_fate *fates, size_t lines);
 galumper_answered galumper_lent_abort(galumper_head head, const int64_t times[GALUMPER_PLACES][2],
-                                      const uint32_t tags[GALUMPER_PLACES][4]);
+                                      const uint32_t tags[GALUMPER_PLACES][5]);
 galumper_answered galumper_lent_set_segments(galumper_head head, const int64_t times[GALUMPER_PLACES][2],
-                                             const uint32_t tags[GALUMPER_PLACES][4]);
+                                             const uint32_t tags[GALUMPER_PLACES][5]);
 galumper_answered galumper_lent_set_sequence(galumper_head head, const int64_t times[GALUMPER_PLACES][2],
-                                             const uint32_t tags[GALUMPER_PLACES][4]);
+                                             const uint32_t tags[GALUMPER_PLACES][5]);
 galumper_answered galumper_lent_set_offset(galumper_head head, const int64_t times[GALUMPER_PLACES][2],
-                                           const uint32_t tags[GALUMPER_PLACES][4], double seconds);
+                                           const uint32_t tags[GALUMPER_PLACES][5], double seconds);
 galumper_answered galumper_lent_set_window_start(galumper_head head, const int64_t times[GALUMPER_PLACES][2],
-                                                 const uint32_t tags[GALUMPER_PLACES][4], double seconds);
+                                                 const uint32_t tags[GALUMPER_PLACES][5], double seconds);
 galumper_answered galumper_lent_set_window_end(galumper_head head, const int64_t times[GALUMPER_PLACES][2],
-                                               const uint32_t tags[GALUMPER_PLACES][4], double seconds);
+                                               const uint32_t tags[GALUMPER_PLACES][5], double seconds);
 galumper_reading galumper_lent_read_settings(galumper_head head, const int64_t times[GALUMPER_PLACES][2],
-                                             const uint32_t tags[GALUMPER_PLACES][4]);
+                                             const uint32_t tags[GALUMPER_PLACES][5]);
 galumper_answer galumper_lent_track_ranges(galumper_head head, const int64_t times[GALUMPER_PLACES][2],
-                                           const uint32_t tags[GALUMPER_PLACES][4], uint32_t track, galumper_range *ranges,
+                                           const uint32_t tags[GALUMPER_PLACES][5], uint32_t track, galumper_range *ranges,
                                            size_t places);
 galumper_answer galumper_lent_common_ranges(galumper_head head, const int64_t times[GALUMPER_PLACES][2],
-                                            const uint32_t tags[GALUMPER_PLACES][4], galumper_range *ranges, size_t places);
+                                            const uint32_t tags[GALUMPER_PLACES][5], galumper_range *ranges, size_t places);
 galumper_answer galumper_lent_walked(galumper_head head, const int64_t times[GALUMPER_PLACES][2],
-                                     const uint32_t tags[GALUMPER_PLACES][4], uint32_t track, size_t places);
+                                     const uint32_t tags[GALUMPER_PLACES][5], uint32_t track, size_t places);
 galumper_answer galumper_lent_list_segment(galumper_segment_track of, const uint8_t *segment, size_t length,
                                            galumper_listed_frame *frames, size_t places);
 
@@ -274,7 +278,7 @@ GALUMPER_LAID_OUT(offsetof(galumper_buffer, times) == 200);
 GALUMPER_LAID_OUT(offsetof(galumper_buffer, tags) == 200 + 16 * GALUMPER_PLACES);
 GALUMPER_LAID_OUT(sizeof(galumper_head) == 200 && offsetof(galumper_head, mode) == 112 && offsetof(galumper_head, settings) == 144);
 GALUMPER_LAID_OUT(sizeof(galumper_track) == 24 && offsetof(galumper_track, need) == 2 && offsetof(galumper_track, duration) == 4);
-GALUMPER_LAID_OUT(sizeof(galumper_group) == 24 && offsetof(galumper_group, start) == 8);
+GALUMPER_LAID_OUT(sizeof(galumper_group) == 24 && offsetof(galumper_group, number) == 4 && offsetof(galumper_group, start) == 8);
 GALUMPER_LAID_OUT(sizeof(galumper_setting) == 16);
 GALUMPER_LAID_OUT(sizeof(galumper_settings) == 56 && offsetof(galumper_settings, end) == 40);
 GALUMPER_LAID_OUT(sizeof(galumper_offered) == 32 && offsetof(galumper_offered, duration) == 8);
@@ -314,7 +318,8 @@ static inline galumper_answer galumper_create(galumper_buffer *buffer, const uin
 }
 
 /* Appends a frame. A frame that is dropped, and each stored frame that is lost, is told on a line of `fates`, and `count` says how
- * many lines there are; `lines` is at least GALUMPER_FATES. Refused 1, 2, 3, 4, 9, 7, 8. */
+ * many lines there are; `lines` is at least GALUMPER_FATES. The first 9 is for the frame's number; the second is for the group that a
+ * frame begins which breaks off from its track, be it then dropped or not. Refused 1, 2, 3, 4, 9, 7, 9, 8. */
 static inline galumper_answer galumper_append(galumper_buffer *buffer, galumper_offered frame, galumper_fate *fates, size_t lines) {
     galumper_fate none;
     return galumper_kept(buffer, galumper_lent_append(buffer->head, frame, buffer->times, buffer->tags, lines ? fates : &none, lines));
@@ -322,7 +327,7 @@ static inline galumper_answer galumper_append(galumper_buffer *buffer, galumper_
 
 /* Appends the frames of a list in its order, at most GALUMPER_BATCH rows as galumper_list_segment writes them, each as galumper_append
  * does; their fate lines follow each other in `fates`, and `lines` is at least GALUMPER_BATCH_FATES. It stops at the first frame that an
- * append refuses (3, 4, 9, 7, 8): that is no refusal of the call, the frame alone changes nothing, and the frames accepted before it stay.
+ * append refuses (3, 4, 9, 7, 9, 8): that is no refusal of the call, the frame alone changes nothing, and the frames accepted before it stay.
  * A track that no uint32_t holds is one that the buffer does not have, and such a duration is outside its limit, as is a flag that is
  * neither 0 nor 1; the size is not looked at. Refused 1, 13, 2, also for an empty list, which else changes nothing. */
 static inline galumper_batch galumper_append_batch(galumper_buffer *buffer, const galumper_listed_frame *frames, size_t nframes,
@@ -339,15 +344,15 @@ static inline galumper_batch galumper_append_batch(galumper_buffer *buffer, cons
 
 /* Removes, on each track, the frames that begin from `start` up to the first random access point at or after `end` (in seconds), and
  * the frames that depend on them; where there is no such point, or `end` is plus infinity, all from `start` on. Fate lines are written as
- * by an append. Where a frame with its track's last decode timestamp goes, every track waits for a random access point. Refused 1, 2, 5,
- * 6. */
+ * by an append. Where a frame with its track's last decode timestamp goes, the next group begins, and every track waits for a random
+ * access point. Refused 1, 2, 5, 6, 9. */
 static inline galumper_answer galumper_remove(galumper_buffer *buffer, double start, double end, galumper_fate *fates, size_t lines) {
     galumper_fate none;
     return galumper_kept(buffer, galumper_lent_remove(buffer->head, start, end, buffer->times, buffer->tags, lines ? fates : &none, lines));
 }
 
-/* Aborts: every track waits for a random access point, the append window is from 0 on without an end, the timestamp offset stays.
- * Refused 1. */
+/* Aborts: the next group begins, also where nothing was appended to this one, every track waits for a random access point, the append
+ * window is from 0 on without an end, the timestamp offset stays. Refused 1, 9. */
 static inline galumper_answer galumper_abort(galumper_buffer *buffer) {
     const galumper_buffer *lent = buffer;
     return galumper_kept(buffer, galumper_lent_abort(lent->head, lent->times, lent->tags));
@@ -444,7 +449,7 @@ static inline const char *galumper_refusal_name(uint32_t refusal) {
     case GALUMPER_ORDER: return "the start is negative or not before the end";
     case GALUMPER_RESULT_LIMITS: return "a time would leave the limits";
     case GALUMPER_FULL: return "the store is full";
-    case GALUMPER_LAST_NUMBER: return "the last frame number is given";
+    case GALUMPER_LAST_NUMBER: return "the last frame or group number is given";
     case GALUMPER_SHORT_LIST: return "the list has too few places";
     case GALUMPER_KINDS: return "no track, more than four, or an unknown kind";
     case GALUMPER_MALFORMED: return "the segment is not well-formed";

@@ -30,6 +30,7 @@ use Rattle.buffer_state.specs.Settings.{create}
 use Rattle.buffer_state.specs.WellFormed.{allOf, goodBuffer}
 use Rattle.buffer_laws.proofs.AccountLaws.{found-once, tracks-balance}
 use Rattle.buffer_laws.proofs.GoodLaws.{Good, good-facts, facts-good}
+use Rattle.buffer_laws.proofs.GroupLaws.{own-group-spared}
 use Rattle.buffer_laws.proofs.LentLaws.{held-back}
 use Rattle.buffer_laws.proofs.RunLaws.{reply-lawful, run-lawful}
 use Rattle.buffer_laws.proofs.SettingLaws.{created-good}
@@ -176,6 +177,7 @@ module _ (kinds : List ℕ) (made : create kinds ≡ done (fresh kinds)) (ms : L
     numbered = λ n. rw (same-first n) (given-last kinds made (calls (take n ms)));
     account = rw (p .results, p .state) (run-accounts kinds made (calls ms));
     kept = p .kept;
+    spared = λ n fs. own-group-spared kinds made (calls (take n ms)) fs;
   }
 
 pub every-history : {kinds : List ℕ} {ms : List Made} {t : Lent} → History kinds ms t → Claim kinds ms t

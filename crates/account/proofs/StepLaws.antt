@@ -28,14 +28,15 @@ use Rattle.buffer_state.specs.Ranges.{Range}
 use Rattle.buffer_state.specs.Refusals.{Result, refused, done}
 use Rattle.buffer_state.specs.Remove as Remove
 use Rattle.buffer_state.specs.Run.{fates, settings, ranges, accepted, byOutcome, bySetting, byRanges, byBatch, byWalked, replyTo}
-use Rattle.buffer_state.specs.Settings.{aborted, modeSet, offsetSet, windowStartSet, windowEndSet, reading}
+use Rattle.buffer_state.specs.Settings as Settings
+use Rattle.buffer_state.specs.Settings.{modeSet, offsetSet, windowStartSet, windowEndSet, reading}
 use Rattle.buffer_state.specs.Store.{Line}
 use Rattle.buffer_state.specs.Walked as Walked
 use Rattle.buffer_state.specs.WellFormed.{goodBuffer}
 use Rattle.buffer_laws.proofs.AnswerLaws.{Leaves, LeavesBatch}
 use Rattle.buffer_laws.proofs.LentLaws.{on-laid-out}
 use Rattle.buffer_laws.proofs.SettingLaws as Setting
-use Rattle.buffer_laws.proofs.SettingLaws.{IfDone, aborted-good, aborted-untouched, mode-good, mode-untouched, offset-set, window-start-set, window-end-set}
+use Rattle.buffer_laws.proofs.SettingLaws.{IfDone, abort-set, mode-good, mode-untouched, offset-set, window-start-set, window-end-set}
 use Rattle.ranges.specs.Bars.{Reported}
 use Rattle.account.specs.Made.{Given, append, remove, abort, setMode, setOffset, setWindowStart, setWindowEnd, readSettings, trackRanges, commonRanges, batch, walked, asked, Back, lineOf, rangeOf, linesOf, joinedOf, rangesOf, changeOf, readingOf, walkedOf, resultOf, writtenLines, KeptPast, Kept, KeptBy}
 
@@ -222,10 +223,8 @@ module _ (b : Buffer) (good : goodBuffer b ≡ true) (s : Lent) (here : s ≡ le
   pub abort-agrees : (r : Changed) → r ≡ abortAnswer (s .head) (s .times) (s .tags) → Agrees b abort (r .answer) (under r)
   unfolding abortAnswer replyTo
   abort-agrees r h =
-      let call : Buffer → Result Buffer = λ c. done (aborted c) in
-      let k : IfDone (Setting.Set b) (call b) = record { good = aborted-good b; untouched = aborted-untouched b } in
-      let o = set-to call k r h in
-      record { result = o .result; state = same-arrays call k r o; kept = tt }
+      let o = set-to Settings.abort (abort-set b) r h in
+      record { result = o .result; state = same-arrays Settings.abort (abort-set b) r o; kept = tt }
 
   pub mode-agrees : (m : Mode) (r : Changed) → r ≡ modeAnswer m (s .head) (s .times) (s .tags) → Agrees b (setMode m) (r .answer) (under r)
   unfolding modeAnswer replyTo

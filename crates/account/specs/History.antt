@@ -18,7 +18,9 @@ use Rattle.buffer_state.specs.declared.Counted.{Counted}
 use Rattle.buffer_state.specs.declared.Mode.{Mode}
 use Rattle.buffer_state.specs.declared.Offered.{Offered}
 use Rattle.buffer_state.specs.declared.Read.{Read}
+use Rattle.buffer_state.specs.Batch.{appendEach}
 use Rattle.buffer_state.specs.Buffer.{fresh}
+use Rattle.buffer_state.specs.Groups.{SparesGroup}
 use Rattle.buffer_state.specs.Lent.{Lent, lentOf, bufferIn}
 use Rattle.buffer_state.specs.Run.{Entry, run, lastOf, offers, foundStored, foundTold, offeredOn, storedOn, droppedOn, removedOn, onOffered}
 use Rattle.buffer_state.specs.WellFormed.{allOf}
@@ -133,6 +135,8 @@ pub record Claim (kinds : List ℕ) (ms : List Made) (t : Lent) : Type 0 where
   pub account : Account (entries ms) t
   -- past the count, and after a refusal everywhere, a lent list holds what it held
   pub kept : AllKept ms
+  -- after any n calls, and any frames of a batch after them, an append takes out no frame of the group in which its own frame is stored
+  pub spared : (n : ℕ) (fs : List Offered) → SparesGroup (appendEach fs (lastOf (fresh kinds) (calls (take n ms))) .outcome .after)
 
 -- every list of calls, with lists lent that hold whatever they hold, has a history
 pub record Happens (kinds : List ℕ) (gs : List Given) : Type 0 where

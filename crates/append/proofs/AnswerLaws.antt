@@ -1,32 +1,42 @@
 -- The call's result: each refusal where its test is the first to pass, and after all of them the last pass settled.
 use mathlib.Core.Path.{_≡_, refl, sym, ap, _∙_}
-use mathlib.Core.Bool.{true, false, _&&_}
+use mathlib.Core.Bool.{Bool, true, false, _&&_}
 use mathlib.Core.List.{List}
 use Prim.Native.Nat.{ℕ, _≤_, _<_}
 use native.Mathlib.Omega.{arith}
-use lib.Dec.{leb, eqb}
+use lib.Dec.{leb, ltb, eqb}
 use lib.IntN.{ℤ}
 use lib.ListN.{length}
 use borrow.Author.Tests.{lt-ltb, le-ltb, eq-eqb, eqb-false, leb-true}
-use Rattle.laws.proofs.BoolLaws.{and-left, and-right}
+use Rattle.laws.proofs.BoolLaws.{clash, and-left, and-right}
 use Rattle.buffer_state.specs.declared.Frame.{Frame}
 use Rattle.buffer_state.specs.declared.Head.{Head}
 use Rattle.buffer_state.specs.declared.Offered.{Offered}
-use Rattle.buffer_state.specs.declared.Refusal.the-variants.{IllFormed, ShortFates, NoTrack, FrameLimits, ResultLimits, LastNumber}
+use Rattle.buffer_state.specs.declared.Refusal.{Refusal}
+use Rattle.buffer_state.specs.declared.Refusal.the-variants.{IllFormed, ShortFates, NoTrack, FrameLimits, ResultLimits, Full, LastNumber}
 use Rattle.buffer_state.specs.Answers.{appendResult}
-use Rattle.buffer_state.specs.Append.{Pass, lastPass, leavesLimits, appended, offerable, append}
+use Rattle.buffer_state.specs.Append.{Pass, lastPass, leavesLimits, lacksGroup, appended, offerable, append}
 use Rattle.buffer_state.specs.Buffer.{Buffer}
 use Rattle.buffer_state.specs.Layout.{zeroFrame, padded, bufferOf}
 use Rattle.buffer_state.specs.Lent.{timesOf, tagsOf, stateAt, headOf, wellFormedAt}
 use Rattle.buffer_state.specs.Limits.{places, lastNumber}
-use Rattle.buffer_state.specs.Refusals.{refused}
+use Rattle.buffer_state.specs.Refusals.{Result, refused, done, refuseIf}
 use Rattle.buffer_laws.proofs.AppendLaws.{last-from, last-pass-good}
 use Rattle.buffer_laws.proofs.GoodLaws.{Good, facts-good}
 use Rattle.buffer_laws.proofs.LayoutLaws.{few-tracks}
 use Rattle.buffer_laws.proofs.LentLaws.{Holds, lent-good, lent-back, held-back, laid-well-formed, ill-formed-refused, on-well-formed}
-use Rattle.heads.specs.Heads.{GoodHead, HasTrack}
+use Rattle.heads.specs.Heads.{GoodHead, HasTrack, decision}
 use Rattle.append.specs.Settled.{settledResult, passAt, Ready}
 use Rattle.append.proofs.StoredLaws.{held-good, held-head, held-count}
+
+isDone : Result Pass → Bool
+isDone (refused why) = false
+isDone (done p) = true
+
+-- why a result is refused; of one that is done, any refusal
+whyOf : Result Pass → Refusal
+whyOf (refused why) = why
+whyOf (done p) = Full
 
 module _ (lent : ℕ) (f : Offered) (h : Head) (ts : List (List ℤ)) (gs : List (List ℕ)) where
   abbrev held : Buffer
@@ -69,13 +79,20 @@ module _ (lent : ℕ) (f : Offered) (h : Head) (ts : List (List ℤ)) (gs : List
           refused-nine e = whole ∙ rw (le-ltb lent places lines, count, track, good, eq-eqb (h .last) lastNumber e)
 
           module _ (number : eqb (h .last) lastNumber ≡ false) where
-            pub refused-seven : leavesLimits held f ≡ true → appendResult lent f h ts gs ≡ refused ResultLimits
-            unfolding append
-            refused-seven e = whole ∙ rw (le-ltb lent places lines, count, track, good, number, e)
+            -- refusals 7 and 9 in their order, as both passes decide
+            pub stops : (why : Refusal) → decision held f ≡ refused why → appendResult lent f h ts gs ≡ refused why
+            unfolding append decision whyOf isDone
+            stops why e = whole ∙ rw (le-ltb lent places lines, count, track, good, number) (go (leavesLimits held f) (lacksGroup held f) e)
+              where
+                go : (x y : Bool) → refuseIf x ResultLimits (refuseIf y LastNumber (done (lastPass held f))) ≡ refused why
+                    → refuseIf x ResultLimits (refuseIf y LastNumber (refuseIf (ltb places (length (appended held f .after .frames))) Full (done (appended held f)))) ≡ refused why
+                go true y d = ap (λ (r : Result Pass). refused (whyOf r)) d
+                go false true d = ap (λ (r : Result Pass). refused (whyOf r)) d
+                go false false d = clash (ap isDone d)
 
-            pub goes-on : leavesLimits held f ≡ false → appendResult lent f h ts gs ≡ settledResult (lastPass held f)
+            pub goes-on : leavesLimits held f ≡ false → lacksGroup held f ≡ false → appendResult lent f h ts gs ≡ settledResult (lastPass held f)
             unfolding append appended settledResult
-            goes-on e = whole ∙ rw (le-ltb lent places lines, count, track, good, number, e)
+            goes-on e g = whole ∙ rw (le-ltb lent places lines, count, track, good, number, e, g)
 
 -- ---- a head and arrays that hold a buffer
 
@@ -122,11 +139,11 @@ module _ (h : Head) (ts : List (List ℤ)) (gs : List (List ℕ)) (w : wellForme
     last-pass-back = let b = holds-back (headOf (last .buffer)) ts gs (last .buffer) last-held in λ j. record { buffer = b j; frame = last .frame }
 
     pub last-pass-ready : HasTrack h (f .track) → eqb (h .last) lastNumber ≡ false → leavesLimits (bufferOf (stateAt h ts gs)) f ≡ false
-        → Ready (headOf (last .buffer)) ts gs (last .frame)
-    last-pass-ready t n inside =
+        → lacksGroup (bufferOf (stateAt h ts gs)) f ≡ false → Ready (headOf (last .buffer)) ts gs (last .frame)
+    last-pass-ready t n inside group =
         let b = bufferOf (stateAt h ts gs) in
         let from = last-from b f in
-        let good = last-pass-good b f (held-good h ts gs w) inside in
+        let good = last-pass-good b f (held-good h ts gs w) inside group in
         let width : length (last .buffer .tracks) ≡ h .ntracks = from .buffer .width ∙ ap (λ (k : Head). k .ntracks) (sym (held-head h ts gs w)) in
         let track : HasTrack (headOf (last .buffer)) (last .frame .track) = rw (from .frame .track, width) t in
         record {

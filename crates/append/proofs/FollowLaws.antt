@@ -49,7 +49,7 @@ module _ (h : Head) (ts : List (List ℤ)) (gs : List (List ℕ)) (w : wellForme
 
   pub follows-ready : Ready h ts gs g
   follows-ready =
-      let last = last-pass-ready h ts gs w f (state-track h ts gs w f offered-track) (k .number) (k .calm .inside) in
+      let last = last-pass-ready h ts gs w f (state-track h ts gs w f offered-track) (k .number) (k .calm .inside) (k .calm .group) in
       let here : Ready (headOf held) ts gs g = subst (λ (p : Pass). Ready (headOf (p .buffer)) ts gs (p .frame)) (k .calm .last) last in
       subst (λ (x : Head). Ready x ts gs g) (sym laid) here
 
@@ -75,6 +75,6 @@ module _ (h : Head) (ts : List (List ℤ)) (gs : List (List ℕ)) (w : wellForme
         let stay = all-stay in
         let count : length (kept (overlapMarks storing)) ≡ length (held .frames) = ap length (stay .0) in
         let room : length (stored storing .after .frames) ≤ places = omega (arith, stored-count storing, count, k .room) in
-        let last = goes-on places f h ts gs w (omega arith) offered-track (k .offered) (k .number) (k .calm .inside) in
+        let last = goes-on places f h ts gs w (omega arith) offered-track (k .offered) (k .number) (k .calm .inside) (k .calm .group) in
         last ∙ ap settledResult (k .calm .last) ∙ store-result (passAt h ts gs g) (k .stays) room
         ∙ (λ j. done (record { after = stepNine storing (stay .0 j); lines = stay .1 j }))

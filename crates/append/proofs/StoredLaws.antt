@@ -58,17 +58,17 @@ module _ (h : Head) (ts : List (List ℤ)) (gs : List (List ℕ)) (w : wellForme
         long = p .long;
         hold = record { times = p .times; tags = p .tags; zeros = lent-zeros h ts gs w };
         order = held-good .frames .order;
-        tracks = all-weaker (goodFrame (length (held .tracks)) (held .last)) onTrack
-            (λ f e. lt-ltb (f .track) 5 (omega (arith, tracks, frame-facts _ _ f e .track-to))) (held .frames) (held-good .frames .each);
+        tracks = all-weaker (goodFrame (length (held .tracks)) (held .last) (held .group .number)) onTrack
+            (λ f e. lt-ltb (f .track) 5 (omega (arith, tracks, frame-facts _ _ _ f e .track-to))) (held .frames) (held-good .frames .each);
       }
 
   -- no frame is presented past the limits
   pub past-limits : (track : ℕ) → Before track (pos 4000000000001) (held .frames)
   unfolding resultTime
   past-limits track =
-      all-weaker (goodFrame (length (held .tracks)) (held .last)) (λ (g : Frame). not (eqb (g .track) track) || ltZ (g .pts) (pos 4000000000001))
+      all-weaker (goodFrame (length (held .tracks)) (held .last) (held .group .number)) (λ (g : Frame). not (eqb (g .track) track) || ltZ (g .pts) (pos 4000000000001))
       (λ g e. or-right (not (eqb (g .track) track)) _
-      (lt-test (le-lt (test-le {a = g .pts} {b = pos 4000000000000} (and-right (leZ (negℤ (pos 4000000000000)) (g .pts)) _ (frame-facts _ _ g e .pts))) (lt-add (pos 4000000000000) 1 (omega arith)))))
+      (lt-test (le-lt (test-le {a = g .pts} {b = pos 4000000000000} (and-right (leZ (negℤ (pos 4000000000000)) (g .pts)) _ (frame-facts _ _ _ g e .pts))) (lt-add (pos 4000000000000) 1 (omega arith)))))
       (held .frames) (held-good .frames .each)
 
 -- ---- need-random-access turned off for the frame's track
@@ -84,7 +84,7 @@ module _ (h : Head) (ts : List (List ℤ)) (gs : List (List ℕ)) (g : Offered) 
 
 pub stored-count : (q : Pass) → length (stored q .after .frames) ≡ suc (length (kept (overlapMarks q)))
 unfolding stored stepNine
-stored-count q = insert-length (storedAs (nextNumber (q .buffer)) (q .frame)) (kept (overlapMarks q))
+stored-count q = insert-length (storedAs (nextNumber (q .buffer)) (q .buffer .group .number) (q .frame)) (kept (overlapMarks q))
 
 -- where a frame goes, a place is freed
 pub freed : (spans : List Span) (n first : ℕ) (ts : List (List ℤ)) (gs : List (List ℕ)) → Stored n ts gs

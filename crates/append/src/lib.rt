@@ -26,10 +26,11 @@ use buffer_state::Head;
 use buffer_state::Offered;
 use buffer_state::PLACES;
 use buffer_state::Refusal;
+use buffer_state::Stop;
 use buffer_state::Tags;
 use buffer_state::Times;
 use buffer_state::Track;
-use heads::Passed;
+use heads::Decided;
 use heads::Steady;
 use taking::Span;
 use taking::Taken;
@@ -105,7 +106,7 @@ fn is_free(s: Span, bound: Bound) -> bool
 // The first frame in the stretch of its track, or n where none is. A stretch that is free by the bound is not searched for.
 fn first_overlapped(
     times: &[[i64; 2]],
-    tags: &[[u32; 4]],
+    tags: &[[u32; 5]],
     n: usize,
     track: u32,
     s: Span,
@@ -124,7 +125,7 @@ fn first_overlapped(
 // ---- a frame that is stored
 
 // A frame that overlaps nothing takes its place. The head after it.
-pub fn put_next(h: Head, g: Offered, times: &mut [[i64; 2]], tags: &mut [[u32; 4]]) -> Head
+pub fn put_next(h: Head, g: Offered, times: &mut [[i64; 2]], tags: &mut [[u32; 5]]) -> Head
     requires { ⌜ Ready h (now times) (now tags) g × (h .nframes < places) ⌝ }
     ensures head { λ r. ⌜ r ≡ headOf (stepNine (storingAt h (now (times .entry)) (now (tags .entry)) g) (take (h .nframes) (framesOf (now (times .entry)) (now (tags .entry))))) ⌝ }
     ensures times { λ r. ⌜ now (times .exit) ≡ timesIn (stepNine (storingAt h (now (times .entry)) (now (tags .entry)) g) (take (h .nframes) (framesOf (now (times .entry)) (now (tags .entry))))) ⌝ }
@@ -133,7 +134,8 @@ pub fn put_next(h: Head, g: Offered, times: &mut [[i64; 2]], tags: &mut [[u32; 4
     let n = h.nframes;
     let k = heads::need_track(h, g.track, false);
     let nine = heads::step_nine(k, g, n);
-    let f = heads::stored_as(nine.last, g);
+    let group = nine.group;
+    let f = heads::stored_as(nine.last, group.number, g);
     places::insert(times, tags, n, f);
     nine
 }
@@ -141,7 +143,7 @@ pub fn put_next(h: Head, g: Offered, times: &mut [[i64; 2]], tags: &mut [[u32; 4
 // The frames in the stretches are taken out, then the frame takes its place among those left.
 fn put_in(
     times: &mut [[i64; 2]],
-    tags: &mut [[u32; 4]],
+    tags: &mut [[u32; 5]],
     n: usize,
     first: usize,
     f: Frame,
@@ -162,7 +164,7 @@ fn put_in(
         dts: 0,
         end: 0,
     };
-    let out = taking::take_out(times, tags, n, first, spans, [none; 5], 4, fates);
+    let out = taking::take_in(times, tags, n, first, spans, [none; 5], 4, fates);
     let left = out.left;
     places::insert(times, tags, left, f);
     out
@@ -175,7 +177,7 @@ fn store_frame(
     g: Offered,
     bound: Bound,
     times: &mut [[i64; 2]],
-    tags: &mut [[u32; 4]],
+    tags: &mut [[u32; 5]],
     fates: &mut [[u32; 2]],
 ) -> Counted
     requires { ⌜ Ready h (now times) (now tags) g × (dropCause (passAt h (now times) (now tags) g) ≡ 0) × Before (g .track) (bound .micros) (take (h .nframes) (framesOf (now times) (now tags))) × (h .nframes ≤ length (now fates)) ⌝ }
@@ -201,7 +203,8 @@ fn store_frame(
         };
     }
     let number = k.last + 1;
-    let f = heads::stored_as(number, g);
+    let group = k.group;
+    let f = heads::stored_as(number, group.number, g);
     let out = put_in(times, tags, n, first, f, spans, fates);
     let nine = heads::step_nine(k, g, out.left);
     Counted {
@@ -267,10 +270,10 @@ pub fn follows(h: Head, f: Offered, bound: Bound) -> Steady
 // The last pass, once it is inside the limits, drops or stores the frame.
 fn settle(
     old: Head,
-    p: Passed,
+    p: Decided,
     bound: Bound,
     times: &mut [[i64; 2]],
-    tags: &mut [[u32; 4]],
+    tags: &mut [[u32; 5]],
     fates: &mut [[u32; 2]],
 ) -> Counted
     requires { ⌜ Ready (p .head) (now times) (now tags) (p .frame) × Before (p .frame .track) (bound .micros) (take (p .head .nframes) (framesOf (now times) (now tags))) × (p .head .nframes ≤ length (now fates)) × (1 ≤ length (now fates)) ⌝ }
@@ -288,15 +291,15 @@ fn settle(
     drop_frame(h, g, cause, fates)
 }
 
-// Append one frame to a state that was tested, as if lent 1,024 lines: refusals 3, 4, 9 and 7 in that order, then 8 or the steps' outcome.
-// The lines lent need be no more than can be written: one for each stored frame, or one for this frame. The bound is that of its
-// track.
+// Append one frame to a state that was tested, as if lent 1,024 lines: refusals 3, 4, 9 (the number), 7 and 9 (the group) in that order,
+// then 8 or the steps' outcome. The lines lent need be no more than can be written: one for each stored frame, or one for this frame. The
+// bound is that of its track.
 pub fn append_tested(
     h: Head,
     f: Offered,
     bound: Bound,
     times: &mut [[i64; 2]],
-    tags: &mut [[u32; 4]],
+    tags: &mut [[u32; 5]],
     fates: &mut [[u32; 2]],
 ) -> Counted
     requires { ⌜ (wellFormedAt h (now times) (now tags) ≡ true) × Before (f .track) (bound .micros) (take (h .nframes) (framesOf (now times) (now tags))) × (h .nframes ≤ length (now fates)) × (1 ≤ length (now fates)) ⌝ }
@@ -315,13 +318,14 @@ pub fn append_tested(
         return buffer_state::refuse(h, Refusal::LastNumber);
     }
     let p = heads::last_pass(h, f);
-    if !p.fits {
-        return buffer_state::refuse(h, Refusal::ResultLimits);
+    let stop = p.stop;
+    match stop {
+        Stop::Nothing => settle(h, p, bound, times, tags, fates),
+        Stop::By(why) => buffer_state::refuse(h, why),
     }
-    settle(h, p, bound, times, tags, fates)
 }
 
-// Append one frame: refusals 1, 2, 3, 4, 9 and 7 in that order, then 8 or the steps' outcome.
+// Append one frame: refusals 1, 2, 3, 4, 9 (the number), 7 and 9 (the group) in that order, then 8 or the steps' outcome.
 pub fn append(
     h: Head,
     f: Offered,

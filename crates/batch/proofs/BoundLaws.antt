@@ -114,11 +114,11 @@ module _ (h : Head) (ts : List (List ℤ)) (gs : List (List ℕ)) (w : wellForme
   pub stored-long : h .nframes ≤ length (framesOf ts gs)
   stored-long = let s = held-store h ts gs w in omega (arith, s .few, s .long .0, frames-length ts gs (s .long .0 ∙ sym (s .long .1)))
 
-  pub stored-at : (i : ℕ) → i < h .nframes → GoodFrame (length (bufferOf (stateAt h ts gs) .tracks)) (h .last) (getD (framesOf ts gs) i zeroFrame)
+  pub stored-at : (i : ℕ) → i < h .nframes → GoodFrame (length (bufferOf (stateAt h ts gs) .tracks)) (h .last) (h .group .number) (getD (framesOf ts gs) i zeroFrame)
   stored-at i e =
       let b = bufferOf (stateAt h ts gs) in
-      let good = goodFrame (length (b .tracks)) (h .last) in
-      frame-facts _ _ _
+      let good = goodFrame (length (b .tracks)) (h .last) (h .group .number) in
+      frame-facts _ _ _ _
       (ap good (sym (getD-take (h .nframes) (framesOf ts gs) i zeroFrame e))
       ∙ all-at good (b .frames) i (omega (arith, held-count h ts gs w)) (held-good h ts gs w .frames .each))
 
@@ -148,11 +148,11 @@ module _ (lent : ℕ) (f : Offered) (b : Buffer) (o : Outcome) (e : append lent 
     five = r .five ∙ bounded .five;
     each =
         rw (accepted .1) at
-        (appended-all (early after) b f (accepted .0) (raised-each before after r (b .frames) (bounded .each)) (λ g m ends. new g m (rw (accepted .1) at ends)));
+        (appended-all (early after) b f (accepted .0) (raised-each before after r (b .frames) (bounded .each)) (λ g group m ends. new g group m (rw (accepted .1) at ends)));
   }
     where
-      new : (g : Offered) → Moved f g → Ends (o .after) g → early after (storedAs (nextNumber b) g) ≡ true
-      new g m ends =
+      new : (g : Offered) (group : ℕ) → Moved f g → Ends (o .after) g → early after (storedAs (nextNumber b) group g) ≡ true
+      new g group m ends =
           let lasts : 1 ≤ g .duration = omega (arith, duration-from f (accepted .0 .offerable), m .duration) in
           let ended = lt-le (lt-add (g .pts) (g .duration) lasts) (test-le {a = endOffered g} {b = trackOf (o .after) (g .track) .end} ends) in
           lt-test (lt-le ended (test-le {a = trackOf (o .after) (g .track) .end} {b = boundAt after (g .track)} (rw (m .track) high)))

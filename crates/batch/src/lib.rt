@@ -100,7 +100,7 @@ fn next_micro(z: i64) -> i64
 }
 
 // One pass over the stored frames. Each track number has its bound among five, the first unused.
-fn bounds_of(h: Head, times: &[[i64; 2]], tags: &[[u32; 4]]) -> [Bound; 5]
+fn bounds_of(h: Head, times: &[[i64; 2]], tags: &[[u32; 5]]) -> [Bound; 5]
     requires { ⌜ wellFormedAt h (now times) (now tags) ≡ true ⌝ }
     ensures { λ r. ⌜ Bounded r (take (h .nframes) (framesOf (now (times .entry)) (now (tags .entry)))) ⌝ }
 {
@@ -150,7 +150,7 @@ fn append_at(
     f: Offered,
     bound: Bound,
     times: &mut [[i64; 2]],
-    tags: &mut [[u32; 4]],
+    tags: &mut [[u32; 5]],
     fates: &mut [[u32; 2]],
     at: usize,
 ) -> Counted
@@ -191,7 +191,7 @@ fn append_each(
     start: Head,
     frames: &[[i64; 6]],
     times: &mut [[i64; 2]],
-    tags: &mut [[u32; 4]],
+    tags: &mut [[u32; 5]],
     fates: &mut [[u32; 2]],
 ) -> Batched
     requires { ⌜ (wellFormedAt start (now times) (now tags) ≡ true) × (length (now frames) ≤ mostFrames) × (batchLines ≤ length (now fates)) ⌝ }

@@ -19,16 +19,16 @@ use Rattle.buffer_state.specs.declared.Frame.{Frame}
 use Rattle.buffer_state.specs.declared.Offered.{Offered}
 use Rattle.buffer_state.specs.declared.Track.{Track}
 use Rattle.buffer_state.specs.declared.Group.{Group}
-use Rattle.buffer_state.specs.Buffer.{Buffer, zeroTrack, trackOf, withNeed, restarted, isSequence}
+use Rattle.buffer_state.specs.Buffer.{Buffer, zeroTrack, trackOf, withNeed, restarted, isSequence, inLastGroup}
 use Rattle.buffer_state.specs.Limits.{resultTime, goodDuration, offeredTime, places, lastNumber, knownKind}
 use Rattle.buffer_state.specs.Store.{kept, Line}
 use Rattle.buffer_state.specs.Run.{total}
-use Rattle.buffer_state.specs.Append.{Outcome, stepOne, stepTwo, Pass, passOf, endOffered, fits, regrouped, breaks, secondPass, lastPass, leavesLimits, needing, beforeWindow, pastWindow, lacksRandomAccess, dropped, overlapMarks, overlapped, followed, storedAs, nextNumber, raised, stepNine, stored, settled, appended, offerable}
+use Rattle.buffer_state.specs.Append.{Outcome, stepOne, stepTwo, Pass, passOf, endOffered, fits, moved, regrouped, breaks, secondPass, lastPass, leavesLimits, lacksGroup, needing, beforeWindow, pastWindow, lacksRandomAccess, dropped, overlapMarks, overlapped, followed, storedAs, nextNumber, raised, stepNine, stored, settled, appended, offerable}
 use Rattle.buffer_state.specs.WellFormed.{allOf, goodTrack, goodOffset, converts, goodStart, goodGroup}
 use Rattle.buffer_laws.proofs.TestLaws.{all-none, all-more, all-getD, all-map}
 use Rattle.buffer_laws.proofs.OrderLaws.{insert-all, insert-total}
 use Rattle.buffer_laws.proofs.StoreLaws.{frameWeight, lineWeight, left-all, left-and-told, told-cause}
-use Rattle.buffer_laws.proofs.GoodLaws.{need-good, restarted-good, track-good, tracks-map, tracks-set, facts-frame, frames-later, frames-left, frames-more, group-end, group-start, starting-good, moved-good, Good}
+use Rattle.buffer_laws.proofs.GoodLaws.{same-number, need-good, restarted-good, track-good, tracks-map, tracks-set, facts-frame, frames-later, frames-left, frames-more, group-end, group-start, group-number, starting-good, ended-good, Good, next-good}
 
 -- ---- steps 1 and 2
 
@@ -64,7 +64,7 @@ step-one-good b f g =
       tracks = tracks-map (b .tracks) (g .tracks) (withNeed true) (need-good true);
       frames = rw (length-map (b .tracks) (withNeed true)) (g .frames);
       last = g .last;
-      group = and-both (group-start (b .group) (g .group) (and-right (isSequence (b .mode)) _ t)) refl;
+      group = and-both (group-start (b .group) (g .group) (and-right (isSequence (b .mode)) _ t)) (group-number (b .group) (g .group));
       settings = record { offset = quotient-good _ h; start = g .settings .start; end = g .settings .end };
     })
     (λ _ _. g)
@@ -75,17 +75,31 @@ pass-good b f g h = step-one-good b f g (fits-facts (passOf b f) h .offset)
 
 -- ---- step 3
 
-pub regrouped-good : (b : Buffer) (z : ℤ) → Good b → resultTime z ≡ true → Good (regrouped b z)
-unfolding regrouped
-regrouped-good b z g h = record {
-  tracks = tracks-map (b .tracks) (g .tracks) restarted restarted-good;
-  frames = rw (length-map (b .tracks) restarted) (g .frames);
-  last = g .last;
-  group =
-      by-test (λ (x : Group). goodGroup x ≡ true) (isSequence (b .mode)) (λ _. starting-good (b .group) (g .group))
-      (λ _. moved-good (b .group) (g .group) z h);
-  settings = g .settings;
-}
+module _ (b : Buffer) (z : ℤ) where
+  pub moved-number : moved b z .group .number ≡ b .group .number
+  unfolding moved
+  moved-number = same-number (b .mode) (b .group) z
+
+  pub regrouped-number : regrouped b z .group .number ≡ b .group .number + 1
+  unfolding regrouped
+  regrouped-number = ap (λ (n : ℕ). n + 1) moved-number
+
+  module _ (g : Good b) (h : resultTime z ≡ true) where
+    pub moved-good : Good (moved b z)
+    unfolding moved
+    moved-good = record {
+      tracks = tracks-map (b .tracks) (g .tracks) restarted restarted-good;
+      frames = rw (length-map (b .tracks) restarted, moved-number) (g .frames);
+      last = g .last;
+      group =
+          by-test (λ (x : Group). goodGroup x ≡ true) (isSequence (b .mode)) (λ _. starting-good (b .group) (g .group))
+          (λ _. ended-good (b .group) (g .group) z h);
+      settings = g .settings;
+    }
+
+    pub regrouped-good : inLastGroup b ≡ false → Good (regrouped b z)
+    unfolding regrouped
+    regrouped-good more = next-good (moved b z) moved-good (rw moved-number more)
 
 -- ---- both passes
 
@@ -102,6 +116,15 @@ step-one-untouched b f =
     (λ _. record { frames = refl; last = refl; width = length-map (b .tracks) (withNeed true) })
     (λ _. record { frames = refl; last = refl; width = refl })
 
+step-one-number : (b : Buffer) (f : Offered) → stepOne b f .group .number ≡ b .group .number
+unfolding stepOne
+step-one-number b f = by-test (λ (c : Buffer). c .group .number ≡ b .group .number) (isSequence (b .mode) && b .group .begun) (λ _. refl) (λ _. refl)
+
+-- a pass begins no group
+pub pass-number : (b : Buffer) (f : Offered) → passOf b f .buffer .group .number ≡ b .group .number
+unfolding passOf
+pass-number b f = step-one-number b f
+
 -- the frame that steps 4 to 9 see is the one offered, but for its two times
 pub record Moved (f g : Offered) : Type 0 where
   pub track : g .track ≡ f .track
@@ -117,7 +140,7 @@ unfolding passOf stepTwo
 first-from b f = record { buffer = step-one-untouched b f; frame = record { track = refl; flagged = refl; duration = refl } }
 
 second-from : (b : Buffer) (f : Offered) → FromPass b f (secondPass b f)
-unfolding secondPass regrouped
+unfolding secondPass regrouped moved
 second-from b f =
     let p = passOf b f in
     let one = first-from b f .buffer in
@@ -140,7 +163,7 @@ abbrev Unset : Buffer → Type 0
 Unset b = allOf (λ (t : Track). not (t .known)) (b .tracks) ≡ true
 
 regrouped-unset : (b : Buffer) (z : ℤ) → Unset (regrouped b z)
-unfolding regrouped
+unfolding regrouped moved
 regrouped-unset b z = all-map (λ (t : Track). true) (λ (t : Track). not (t .known)) restarted (λ t _. refl) (b .tracks) (every (b .tracks))
   where
     every : (ts : List Track) → allOf (λ (t : Track). true) ts ≡ true
@@ -169,10 +192,10 @@ pub record GoodPass (p : Pass) : Type 0 where
   pub buffer : Good (p .buffer)
   pub fit : Fits p
 
--- A frame that is not refused by 7 leaves both passes with a good buffer and times inside the limits.
-pub last-pass-good : (b : Buffer) (f : Offered) → Good b → leavesLimits b f ≡ false → GoodPass (lastPass b f)
-unfolding lastPass leavesLimits secondPass
-last-pass-good b f g e =
+-- A frame that is not refused by 7 or 9 leaves both passes with a good buffer and times inside the limits.
+pub last-pass-good : (b : Buffer) (f : Offered) → Good b → leavesLimits b f ≡ false → lacksGroup b f ≡ false → GoodPass (lastPass b f)
+unfolding lastPass leavesLimits lacksGroup secondPass
+last-pass-good b f g e l =
     let p = passOf b f in
     let fit : fits p ≡ true = not-false (fits p) (or-none-left (not (fits p)) _ e) in
     let first : Good (p .buffer) = pass-good b f g fit in
@@ -180,15 +203,16 @@ last-pass-good b f g e =
     by-test GoodPass (breaks p)
     (λ t.
     let fit₂ : fits (passOf restart f) ≡ true = not-false _ (rw t at (or-none-right (not (fits p)) _ e)) in
+    let more : inLastGroup (p .buffer) ≡ false = rw (pass-number b f) (rw t at l) in
     record {
-      buffer = pass-good restart f (regrouped-good (p .buffer) (p .frame .pts) first (fits-facts p fit .pts)) fit₂;
+      buffer = pass-good restart f (regrouped-good (p .buffer) (p .frame .pts) first (fits-facts p fit .pts) more) fit₂;
       fit = fits-facts (passOf restart f) fit₂;
     })
     (λ _. record { buffer = first; fit = fits-facts p fit })
 
 -- ---- steps 4 to 6
 
-needing-good : (on : Bool) (p : Pass) → Good (p .buffer) → Good (needing on p)
+pub needing-good : (on : Bool) (p : Pass) → Good (p .buffer) → Good (needing on p)
 needing-good on p g =
     let ts = p .buffer .tracks in
     let i = p .frame .track - 1 in
@@ -203,7 +227,7 @@ needing-good on p g =
 dropped-good : (b : Buffer) (cause : ℕ) → Good b → b .last < lastNumber → Good (dropped b cause .after)
 dropped-good b cause g h = record {
   tracks = g .tracks;
-  frames = frames-later (length (b .tracks)) (b .last) (b .frames) (g .frames);
+  frames = frames-later (length (b .tracks)) (b .last) (b .group .number) (b .frames) (g .frames) (b .last + 1) (b .group .number) (omega arith) (omega arith);
   last = omega arith;
   group = g .group;
   settings = g .settings;
@@ -250,13 +274,14 @@ stored-good p s few =
           (followed-good _ f (track-good (b .tracks) (g .tracks) i) (s .fit .dts) (s .duration) (s .fit .end));
       frames =
           rw width
-          (frames-more (length (b .tracks)) (b .last) (storedAs (nextNumber b) f) (kept (overlapMarks p))
-          (frames-left (length (b .tracks)) (b .last) (b .frames) (g .frames) (overlapped (trackOf b (f .track)) f) 4)
-          (facts-frame (length (b .tracks)) (b .last + 1) (storedAs (nextNumber b) f) (record {
+          (frames-more (length (b .tracks)) (b .last) (b .group .number) (storedAs (nextNumber b) (b .group .number) f) (kept (overlapMarks p))
+          (frames-left (length (b .tracks)) (b .last) (b .group .number) (b .frames) (g .frames) (overlapped (trackOf b (f .track)) f) 4)
+          (facts-frame (length (b .tracks)) (b .last + 1) (b .group .number) (storedAs (nextNumber b) (b .group .number) f) (record {
             track-from = s .track-from;
             track-to = s .track-to;
             number-from = omega arith;
             number-to = omega arith;
+            group-to = omega arith;
             not-early = s .not-early;
             pts = s .fit .pts;
             dts = s .fit .dts;
@@ -265,7 +290,7 @@ stored-good p s few =
           }))
           refl few);
       last = omega (arith, s .number);
-      group = moved-good (b .group) (g .group) _ (raised-time (b .group .end) (endOffered f) (group-end (b .group) (g .group)) (s .fit .end));
+      group = ended-good (b .group) (g .group) _ (raised-time (b .group .end) (endOffered f) (group-end (b .group) (g .group)) (s .fit .end));
       settings = g .settings;
     }
 
@@ -308,6 +333,7 @@ pub record Accepted (b : Buffer) (f : Offered) : Type 0 where
   pub offerable : offerable f ≡ true
   pub number : eqb (b .last) lastNumber ≡ false
   pub inside : leavesLimits b f ≡ false
+  pub group : lacksGroup b f ≡ false
   pub room : length (appended b f .after .frames) ≤ places
 
 -- Preservation: a good buffer stays good.
@@ -316,7 +342,7 @@ unfolding appended
 appended-good b f g a =
     let p = lastPass b f in
     let from = last-from b f in
-    let good = last-pass-good b f g (a .inside) in
+    let good = last-pass-good b f g (a .inside) (a .group) in
     settled-good p (good .buffer) (good .fit) (rw (from .frame .duration) (offered-duration f (a .offerable)))
     (rw (from .frame .track) (a .track-from)) (rw (from .frame .track, from .buffer .width) (a .track-to))
     (rw (from .buffer .last) (omega (arith, eqb-false (b .last) lastNumber (a .number)))) (a .room)
@@ -345,7 +371,7 @@ stored-accounts p =
     let test = overlapped (trackOf (p .buffer) (p .frame .track)) (p .frame) in
     let fs = p .buffer .frames in
     record {
-      weight = λ w. omega (arith, insert-total (storedAs (nextNumber (p .buffer)) (p .frame)) (λ (f : Frame). w (f .number)) (kept (overlapMarks p)), left-and-told test 4 fs w);
+      weight = λ w. omega (arith, insert-total (storedAs (nextNumber (p .buffer)) (p .buffer .group .number) (p .frame)) (λ (f : Frame). w (f .number)) (kept (overlapMarks p)), left-and-told test 4 fs w);
       last = refl;
       causes = told-cause test 4 fs (λ (c : ℕ). leb 1 c && leb c 6) refl refl;
     }
@@ -396,18 +422,18 @@ stored-ends p from to =
     ap (λ (x : Track). leZ (endOffered (p .frame)) (x .end)) same ∙ highest-reached (trackOf (p .buffer) (p .frame .track)) (endOffered (p .frame))
 
 module _ (q : Frame → Bool) where
-  stored-all : (p : Pass) → allOf q (p .buffer .frames) ≡ true → q (storedAs (nextNumber (p .buffer)) (p .frame)) ≡ true
+  stored-all : (p : Pass) → allOf q (p .buffer .frames) ≡ true → q (storedAs (nextNumber (p .buffer)) (p .buffer .group .number) (p .frame)) ≡ true
       → allOf q (stored p .after .frames) ≡ true
   unfolding stored stepNine overlapMarks
   stored-all p e h =
-      insert-all (storedAs (nextNumber (p .buffer)) (p .frame)) q (kept (overlapMarks p)) h
+      insert-all (storedAs (nextNumber (p .buffer)) (p .buffer .group .number) (p .frame)) q (kept (overlapMarks p)) h
       (left-all (overlapped (trackOf (p .buffer) (p .frame .track)) (p .frame)) 4 (p .buffer .frames) q e)
 
   settled-all : (p : Pass) → 1 ≤ p .frame .track → p .frame .track ≤ length (p .buffer .tracks) → allOf q (p .buffer .frames) ≡ true
-      → (Ends (settled p .after) (p .frame) → q (storedAs (nextNumber (p .buffer)) (p .frame)) ≡ true) → allOf q (settled p .after .frames) ≡ true
+      → (Ends (settled p .after) (p .frame) → q (storedAs (nextNumber (p .buffer)) (p .buffer .group .number) (p .frame)) ≡ true) → allOf q (settled p .after .frames) ≡ true
   unfolding settled
   settled-all p from to e =
-      let Holds : Outcome → Type 0 = λ (o : Outcome). (Ends (o .after) (p .frame) → q (storedAs (nextNumber (p .buffer)) (p .frame)) ≡ true) → allOf q (o .after .frames) ≡ true in
+      let Holds : Outcome → Type 0 = λ (o : Outcome). (Ends (o .after) (p .frame) → q (storedAs (nextNumber (p .buffer)) (p .buffer .group .number) (p .frame)) ≡ true) → allOf q (o .after .frames) ≡ true in
       let ready : Pass = record { buffer = needing false p; frame = p .frame } in
       let width : length (ready .buffer .tracks) ≡ length (p .buffer .tracks) = length-set (p .buffer .tracks) (p .frame .track - 1) _ in
       by-test Holds (beforeWindow p) (λ _ _. e)
@@ -416,10 +442,11 @@ module _ (q : Frame → Bool) where
       (λ _ h. stored-all ready e (h (stored-ends ready from (omega (arith, width)))))))
 
   pub appended-all : (b : Buffer) (f : Offered) → Accepted b f → allOf q (b .frames) ≡ true
-      → ((g : Offered) → Moved f g → Ends (appended b f .after) g → q (storedAs (nextNumber b) g) ≡ true) → allOf q (appended b f .after .frames) ≡ true
+      → ((g : Offered) (group : ℕ) → Moved f g → Ends (appended b f .after) g → q (storedAs (nextNumber b) group g) ≡ true)
+      → allOf q (appended b f .after .frames) ≡ true
   unfolding appended
   appended-all b f a e h =
       let from = last-from b f in
       let p = lastPass b f in
       settled-all p (rw (from .frame .track) (a .track-from)) (rw (from .frame .track, from .buffer .width) (a .track-to)) (rw (from .buffer .frames) e)
-      (λ ends. rw (from .buffer .last) (h (p .frame) (from .frame) ends))
+      (λ ends. rw (from .buffer .last) (h (p .frame) (p .buffer .group .number) (from .frame) ends))

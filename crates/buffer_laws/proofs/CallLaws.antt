@@ -17,7 +17,7 @@ use Rattle.buffer_state.specs.Buffer.{Buffer, hasTrack}
 use Rattle.buffer_state.specs.Limits.{places, lastNumber}
 use Rattle.buffer_state.specs.Refusals.{Result, refused, done}
 use Rattle.buffer_state.specs.Store.{Line}
-use Rattle.buffer_state.specs.Append.{Outcome, nextNumber, storedAs, offerable, leavesLimits, appended, append}
+use Rattle.buffer_state.specs.Append.{Outcome, nextNumber, storedAs, offerable, leavesLimits, lacksGroup, appended, append}
 use Rattle.buffer_state.specs.Run.{trackOffered, onOffered, total}
 use Rattle.buffer_state.specs.WellFormed.{allOf, goodFrame}
 use Rattle.buffer_laws.proofs.TestLaws.{all-none, all-from-both, all-append}
@@ -102,14 +102,14 @@ both-lawful {b} {c} {d} {given} {later} {lines} {more} one rest = record {
 -- ---- an append: frames offered later change no frame's track
 
 module _ (b : Buffer) (g : Good b) (tracks more : List ℕ) (n : length tracks ≡ b .last) where
-  older : (f : Frame) → goodFrame (length (b .tracks)) (b .last) f ≡ true → trackOffered (tracks ++ more) (f .number) ≡ trackOffered tracks (f .number)
+  older : (f : Frame) → goodFrame (length (b .tracks)) (b .last) (b .group .number) f ≡ true → trackOffered (tracks ++ more) (f .number) ≡ trackOffered tracks (f .number)
   older f e =
-      let h = frame-facts (length (b .tracks)) (b .last) f e in
+      let h = frame-facts (length (b .tracks)) (b .last) (b .group .number) f e in
       List·getD-append tracks more 0 (f .number - 1) (omega (arith, h .number-from, h .number-to))
 
   older-placed : allOf (onOffered tracks) (b .frames) ≡ true → allOf (onOffered (tracks ++ more)) (b .frames) ≡ true
   older-placed =
-      all-from-both (goodFrame (length (b .tracks)) (b .last)) (onOffered tracks) (onOffered (tracks ++ more))
+      all-from-both (goodFrame (length (b .tracks)) (b .last) (b .group .number)) (onOffered tracks) (onOffered (tracks ++ more))
       (λ f e h. rw (older f e) h) (b .frames) (g .frames .each)
 
 -- the law of an append's outcome
@@ -127,11 +127,12 @@ appended-lawful b f a =
       causes = law .causes;
       placed = λ g tracks n e.
           appended-all (onOffered (tracks ++ (f .track ∷ []))) b f a (older-placed b g tracks (f .track ∷ []) n e)
-          (λ h m _. new tracks n h m);
+          (λ h group m _. new tracks n h group m);
     }
   where
-    new : (tracks : List ℕ) → length tracks ≡ b .last → (h : Offered) → Moved f h → onOffered (tracks ++ (f .track ∷ [])) (storedAs (nextNumber b) h) ≡ true
-    new tracks n h m =
+    new : (tracks : List ℕ) → length tracks ≡ b .last → (h : Offered) (group : ℕ) → Moved f h
+        → onOffered (tracks ++ (f .track ∷ [])) (storedAs (nextNumber b) group h) ≡ true
+    new tracks n h group m =
         eq-eqb (h .track) _
         (m .track ∙ sym (getD-at tracks (f .track) [] 0 (nextNumber b - 1) (omega (arith, n))))
 
@@ -145,7 +146,8 @@ append-done lent f b =
     (λ track. by-test Holds (not (offerable f)) (λ _. tt)
     (λ limits. by-test Holds (eqb (b .last) lastNumber) (λ _. tt)
     (λ number. by-test Holds (leavesLimits b f) (λ _. tt)
-    (λ inside. by-test Holds (ltb places (length (appended b f .after .frames))) (λ _. tt)
+    (λ inside. by-test Holds (lacksGroup b f) (λ _. tt)
+    (λ group. by-test Holds (ltb places (length (appended b f .after .frames))) (λ _. tt)
     (λ room.
     let has = not-false (hasTrack b (f .track)) track in (
       record {
@@ -154,10 +156,11 @@ append-done lent f b =
         offerable = not-false (offerable f) limits;
         number = number;
         inside = inside;
+        group = group;
         room = ltb-false places (length (appended b f .after .frames)) room;
       },
       refl,
-    )))))))
+    ))))))))
 
 pub append-lawful : (lent : ℕ) (f : Offered) (b : Buffer) → IfDone (OneLawful b f) (append lent f b)
 append-lawful lent f b = go (append lent f b) (append-done lent f b)

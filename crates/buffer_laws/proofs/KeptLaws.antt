@@ -19,13 +19,13 @@ use Rattle.buffer_state.specs.declared.Settings.{Settings}
 use Rattle.buffer_state.specs.declared.WindowEnd.{WindowEnd}
 use Rattle.buffer_state.specs.declared.WindowEnd.the-variants.{Unbounded, At}
 use Rattle.buffer_state.specs.Answers.{outcomeOf}
-use Rattle.buffer_state.specs.Append.{Pass, Outcome, stepOne, regrouped, breaks, passOf, secondPass, lastPass, leavesLimits, beforeWindow, pastWindow, lacksRandomAccess, stepNine, stored, settled, appended, offerable, append}
+use Rattle.buffer_state.specs.Append.{Pass, Outcome, stepOne, moved, regrouped, breaks, passOf, secondPass, lastPass, leavesLimits, lacksGroup, beforeWindow, pastWindow, lacksRandomAccess, stepNine, stored, settled, appended, offerable, append}
 use Rattle.buffer_state.specs.Batch.{Batch, mostFrames, batchLines, batch}
-use Rattle.buffer_state.specs.Buffer.{Buffer, hasTrack, isSequence}
+use Rattle.buffer_state.specs.Buffer.{Buffer, hasTrack, isSequence, inLastGroup}
 use Rattle.buffer_state.specs.Limits.{places, lastNumber}
 use Rattle.buffer_state.specs.Refusals.{Result}
-use Rattle.buffer_state.specs.Remove.{beforeBound, removalMarks, endsTrack, afterLoss, removed, remove}
-use Rattle.buffer_state.specs.Settings.{aborted, modeSet, offsetSet, windowEnd, windowStartSet, windowEndSet, endAt}
+use Rattle.buffer_state.specs.Remove.{beforeBound, removalMarks, endsTrack, afterLoss, removalLacksGroup, removed, remove}
+use Rattle.buffer_state.specs.Settings.{aborted, abort, modeSet, offsetSet, windowEnd, windowStartSet, windowEndSet, endAt}
 use Rattle.buffer_state.specs.Store.{Marked}
 use Rattle.buffer_laws.proofs.SettingLaws.{IfDone, if-done}
 use Rattle.buffer_laws.proofs.BatchLaws.{each-keeps}
@@ -68,7 +68,7 @@ module _ (P : Float → Type 0) (made : Made P) where
   pass-keeps b f k = step-one-keeps b f k
 
   last-pass-keeps : (b : Buffer) (f : Offered) → Keeps P (b .settings) → Keeps P (lastPass b f .buffer .settings)
-  unfolding lastPass secondPass regrouped
+  unfolding lastPass secondPass regrouped moved
   last-pass-keeps b f k =
       let p = passOf b f in
       by-test (λ (q : Pass). Keeps P (q .buffer .settings)) (breaks p)
@@ -91,8 +91,9 @@ module _ (P : Float → Type 0) (made : Made P) where
       (λ _. by-test (OutcomeKeeps P) (not (offerable f)) (λ _. tt)
       (λ _. by-test (OutcomeKeeps P) (eqb (b .last) lastNumber) (λ _. tt)
       (λ _. by-test (OutcomeKeeps P) (leavesLimits b f) (λ _. tt)
+      (λ _. by-test (OutcomeKeeps P) (lacksGroup b f) (λ _. tt)
       (λ _. by-test (OutcomeKeeps P) (ltb places (length (appended b f .after .frames))) (λ _. tt)
-      (λ _. settled-keeps (lastPass b f) (last-pass-keeps b f k)))))))
+      (λ _. settled-keeps (lastPass b f) (last-pass-keeps b f k))))))))
 
   pub batch-keeps : (lent : ℕ) (fs : List Offered) (b : Buffer) → Keeps P (b .settings) → OutcomeKeeps P (outcomeOf (batch lent fs b))
   unfolding batch
@@ -105,7 +106,7 @@ module _ (P : Float → Type 0) (made : Made P) where
   -- ---- removal, which keeps them all
 
   loss-keeps : (ms : List Marked) (b : Buffer) → Keeps P (b .settings) → Keeps P (afterLoss ms b .settings)
-  unfolding afterLoss regrouped
+  unfolding afterLoss regrouped moved
   loss-keeps [] b k = k
   loss-keeps (m ∷ ms) b k = by-test (λ (c : Buffer). Keeps P (c .settings)) (endsTrack b m) (λ _. k) (λ _. loss-keeps ms b k)
 
@@ -115,13 +116,14 @@ module _ (P : Float → Type 0) (made : Made P) where
       by-test (OutcomeKeeps P) (ltb lent places) (λ _. tt)
       (λ _. by-test (OutcomeKeeps P) (not (convertible start) || not (convertibleEnd end)) (λ _. tt)
       (λ _. by-test (OutcomeKeeps P) (ltZ (microsOf start) (pos 0) || not (beforeBound (microsOf start) (boundOf end))) (λ _. tt)
-      (λ _. loss-keeps (removalMarks (microsOf start) (boundOf end) (b .frames)) b k)))
+      (λ _. by-test (OutcomeKeeps P) (removalLacksGroup (microsOf start) (boundOf end) b) (λ _. tt)
+      (λ _. loss-keeps (removalMarks (microsOf start) (boundOf end) (b .frames)) b k))))
 
   -- ---- abort and the setters
 
-  pub abort-keeps : (b : Buffer) → Keeps P (b .settings) → Keeps P (aborted b .settings)
-  unfolding aborted
-  abort-keeps b k = record { offset = k .offset; start = made .zero; end = tt }
+  pub abort-keeps : (b : Buffer) → Keeps P (b .settings) → SettingKeeps P (abort b)
+  unfolding abort aborted
+  abort-keeps b k = by-test (SettingKeeps P) (inLastGroup b) (λ _. tt) (λ _. record { offset = k .offset; start = made .zero; end = tt })
 
   pub mode-keeps : (m : Mode) (b : Buffer) → Keeps P (b .settings) → Keeps P (modeSet m b .settings)
   unfolding modeSet

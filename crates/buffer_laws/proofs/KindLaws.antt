@@ -13,15 +13,15 @@ use Rattle.buffer_state.specs.declared.Mode.{Mode}
 use Rattle.buffer_state.specs.declared.Mode.the-variants.{Segments, Sequence}
 use Rattle.buffer_state.specs.declared.Offered.{Offered}
 use Rattle.buffer_state.specs.declared.Track.{Track}
-use Rattle.buffer_state.specs.Append.{Pass, Outcome, stepOne, regrouped, breaks, passOf, secondPass, lastPass, leavesLimits, beforeWindow, pastWindow, lacksRandomAccess, needing, stepNine, stored, settled, appended, offerable, append}
+use Rattle.buffer_state.specs.Append.{Pass, Outcome, stepOne, moved, regrouped, breaks, passOf, secondPass, lastPass, leavesLimits, lacksGroup, beforeWindow, pastWindow, lacksRandomAccess, needing, stepNine, stored, settled, appended, offerable, append}
 use Rattle.buffer_state.specs.Batch.{Batch, mostFrames, batchLines, batch}
-use Rattle.buffer_state.specs.Buffer.{Buffer, fresh, freshTrack, zeroTrack, hasTrack, withNeed, restarted, isSequence}
+use Rattle.buffer_state.specs.Buffer.{Buffer, fresh, freshTrack, zeroTrack, hasTrack, withNeed, restarted, isSequence, inLastGroup}
 use Rattle.buffer_state.specs.Limits.{places, lastNumber}
 use Rattle.buffer_state.specs.Ranges.{Range, trackRanges, commonRanges}
 use Rattle.buffer_state.specs.Refusals.{Result, refused, done}
-use Rattle.buffer_state.specs.Remove.{beforeBound, removalMarks, endsTrack, afterLoss, removed, remove}
+use Rattle.buffer_state.specs.Remove.{beforeBound, removalMarks, endsTrack, afterLoss, removalLacksGroup, removed, remove}
 use Rattle.buffer_state.specs.Run.{Call, appendCall, removeCall, abortCall, modeCall, offsetCall, windowStartCall, windowEndCall, readCall, rangesCall, commonCall, batchCall, walkedCall, byOutcome, bySetting, byRanges, byBatch, byWalked, replyTo, lastOf}
-use Rattle.buffer_state.specs.Settings.{aborted, modeSet, offsetSet, windowEnd, windowStartSet, windowEndSet}
+use Rattle.buffer_state.specs.Settings.{aborted, abort, modeSet, offsetSet, windowEnd, windowStartSet, windowEndSet}
 use Rattle.buffer_state.specs.Store.{Marked}
 use Rattle.buffer_state.specs.Walked.{walked}
 use Rattle.buffer_laws.proofs.SettingLaws.{IfDone, if-done}
@@ -52,7 +52,7 @@ step-one-kinds b f =
     (λ _. refl)
 
 regrouped-kinds : (b : Buffer) (z : ℤ) → kindsOf (regrouped b z) ≡ kindsOf b
-unfolding regrouped
+unfolding regrouped moved
 regrouped-kinds b z = map-kinds restarted (λ t. refl) (b .tracks)
 
 pass-kinds : (b : Buffer) (f : Offered) → kindsOf (passOf b f .buffer) ≡ kindsOf b
@@ -100,8 +100,9 @@ append-kinds lent f b =
     (λ _. by-test Same (not (offerable f)) (λ _. tt)
     (λ _. by-test Same (eqb (b .last) lastNumber) (λ _. tt)
     (λ _. by-test Same (leavesLimits b f) (λ _. tt)
+    (λ _. by-test Same (lacksGroup b f) (λ _. tt)
     (λ _. by-test Same (ltb places (length (appended b f .after .frames))) (λ _. tt)
-    (λ _. appended-kinds b f))))))
+    (λ _. appended-kinds b f)))))))
 
 -- ---- removal
 
@@ -135,15 +136,18 @@ outcome-kinds b (refused why) e = refl
 outcome-kinds b (done o) e = e
 
 pub reply-kinds : (c : Call) (b : Buffer) → kindsOf (replyTo c b .after) ≡ kindsOf b
-unfolding replyTo batch remove aborted offsetSet windowStartSet windowEndSet
+unfolding replyTo batch remove abort aborted offsetSet windowStartSet windowEndSet
 reply-kinds (appendCall lent f) b = outcome-kinds b (append lent f b) (append-kinds lent f b)
 reply-kinds (removeCall lent start end) b =
     let Same : Result Outcome → Type 0 = λ r. kindsOf (byOutcome b r .after) ≡ kindsOf b in
     by-test Same (ltb lent places) (λ _. refl)
     (λ _. by-test Same (not (convertible start) || not (convertibleEnd end)) (λ _. refl)
     (λ _. by-test Same (ltZ (microsOf start) (pos 0) || not (beforeBound (microsOf start) (boundOf end))) (λ _. refl)
-    (λ _. removed-kinds (microsOf start) (boundOf end) b)))
-reply-kinds abortCall b = map-kinds restarted (λ t. refl) (b .tracks)
+    (λ _. by-test Same (removalLacksGroup (microsOf start) (boundOf end) b) (λ _. refl)
+    (λ _. removed-kinds (microsOf start) (boundOf end) b))))
+reply-kinds abortCall b =
+    let Same : Result Buffer → Type 0 = λ r. kindsOf (bySetting b r .after) ≡ kindsOf b in
+    by-test Same (inLastGroup b) (λ _. refl) (λ _. map-kinds restarted (λ t. refl) (b .tracks))
 reply-kinds (modeCall m) b = mode-kinds m b
 reply-kinds (offsetCall x) b =
     let Same : Result Buffer → Type 0 = λ r. kindsOf (bySetting b r .after) ≡ kindsOf b in

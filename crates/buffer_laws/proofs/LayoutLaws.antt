@@ -1,6 +1,6 @@
 -- A State holds a buffer and nothing else: to lay out and to read back undo each other, since past the counts stand zeros only.
 use mathlib.Core.Path.{_≡_, refl, sym, ap, _∙_}
-use mathlib.Core.Bool.{Bool, true, false, not, _&&_}
+use mathlib.Core.Bool.{Bool, true, not, _&&_}
 use mathlib.Core.List.{List, _++_}
 use Prim.Native.Nat.{ℕ, _-_, _≤_}
 use native.Mathlib.Omega.{arith}
@@ -56,14 +56,15 @@ six a b c d e f h =
 -- a frame that the test calls zero is the zero frame
 pub frame-zero : (f : Frame) → isZeroFrame f ≡ true → f ≡ zeroFrame
 frame-zero f h =
-    let t = six (eqb (f .track) 0) (not (f .flagged)) (eqb (f .duration) 0) (eqb (f .number) 0) (zeroInt (f .pts)) (zeroInt (f .dts)) h in
+    let t = six (eqb (f .track) 0) (not (f .flagged)) (eqb (f .duration) 0) (eqb (f .number) 0) (eqb (f .group) 0) (zeroInt (f .pts) && zeroInt (f .dts)) h in
     let track = eqb-true (f .track) 0 (t .0) in
     let flagged = not-true (f .flagged) (t .1) in
     let duration = eqb-true (f .duration) 0 (t .2) in
     let number = eqb-true (f .number) 0 (t .3) in
-    let pts = same-int (f .pts) (pos 0) (t .4) in
-    let dts = same-int (f .dts) (pos 0) (t .5) in
-    λ i. record { track = track i; flagged = flagged i; duration = duration i; number = number i; pts = pts i; dts = dts i }
+    let group = eqb-true (f .group) 0 (t .4) in
+    let pts = same-int (f .pts) (pos 0) (and-left _ _ (t .5)) in
+    let dts = same-int (f .dts) (pos 0) (and-right (zeroInt (f .pts)) _ (t .5)) in
+    λ i. record { track = track i; flagged = flagged i; duration = duration i; number = number i; group = group i; pts = pts i; dts = dts i }
 
 -- a track that the test calls zero is the zero track
 pub track-zero : (t : Track) → isZeroTrack t ≡ true → t ≡ zeroTrack
@@ -142,7 +143,7 @@ pub few-frames : (b : Buffer) → goodBuffer b ≡ true → length (b .frames) �
 unfolding goodBuffer goodFrames
 few-frames b h =
     let rest = and-right (goodTracks (b .tracks)) _ h in
-    let fs : goodFrames (length (b .tracks)) (b .last) (b .frames) ≡ true = and-left _ _ rest in
+    let fs : goodFrames (length (b .tracks)) (b .last) (b .group .number) (b .frames) ≡ true = and-left _ _ rest in
     leb-true _ _ (and-left _ _ fs)
 
 -- a good buffer, laid out, is a well-formed state

@@ -16,6 +16,8 @@ pub mod SettingLaws
 pub mod CallLaws
 pub mod BatchLaws
 pub mod RunLaws
+pub mod SpareLaws
+pub mod GroupLaws
 pub mod AccountLaws
 pub mod KindLaws
 pub mod KeptLaws

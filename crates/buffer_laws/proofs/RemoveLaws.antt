@@ -1,8 +1,8 @@
 -- A removal keeps a good buffer good, and every number that it finds stored it leaves stored or tells on one line.
 use mathlib.Core.Path.{_≡_, refl}
-use mathlib.Core.Bool.{Bool, true, _&&_}
+use mathlib.Core.Bool.{Bool, true, false, _&&_}
 use mathlib.Core.List.{List, [], _∷_}
-use Prim.Native.Nat.{ℕ}
+use Prim.Native.Nat.{ℕ, _≤_}
 use native.Mathlib.Omega.{arith}
 use lib.Dec.{leb}
 use lib.IntN.{ℤ}
@@ -11,35 +11,45 @@ use lib.Signed.{leZ}
 use Rattle.laws.proofs.BoolLaws.{by-test}
 use Rattle.seconds.specs.Seconds.{Bound}
 use Rattle.buffer_state.specs.declared.Frame.{Frame}
-use Rattle.buffer_state.specs.Buffer.{Buffer, restarted}
+use Rattle.buffer_state.specs.Buffer.{Buffer, restarted, inLastGroup}
 use Rattle.buffer_state.specs.Limits.{resultTime}
 use Rattle.buffer_state.specs.Store.{Marked}
-use Rattle.buffer_state.specs.Append.{regrouped}
-use Rattle.buffer_state.specs.Remove.{beforeBound, farEdge, removalMarks, endsTrack, afterLoss, removed}
+use Rattle.buffer_state.specs.Append.{moved, regrouped}
+use Rattle.buffer_state.specs.Remove.{beforeBound, farEdge, removalMarks, endsTrack, afterLoss, endsAny, removalLacksGroup, removed}
 use Rattle.buffer_state.specs.Run.{total}
 use Rattle.buffer_state.specs.WellFormed.{allOf, goodFrame}
 use Rattle.buffer_laws.proofs.TestLaws.{all-first, all-rest, all-weaker}
 use Rattle.buffer_laws.proofs.StoreLaws.{framesOf, marks-frames, left-all, left-and-told, told-cause}
-use Rattle.buffer_laws.proofs.GoodLaws.{frame-facts, frames-left, Good}
-use Rattle.buffer_laws.proofs.AppendLaws.{regrouped-good, Untouched, Accounts}
+use Rattle.buffer_laws.proofs.GoodLaws.{frame-facts, frames-later, frames-left, Good}
+use Rattle.buffer_laws.proofs.AppendLaws.{regrouped-number, regrouped-good, Untouched, Accounts}
 
 -- ---- the rule on the last decode time
 
-lost-untouched : (ms : List Marked) (b : Buffer) → Untouched b (afterLoss ms b)
-unfolding afterLoss regrouped
+pub lost-untouched : (ms : List Marked) (b : Buffer) → Untouched b (afterLoss ms b)
+unfolding afterLoss regrouped moved
 lost-untouched [] b = record { frames = refl; last = refl; width = refl }
 lost-untouched (m ∷ ms) b =
     by-test (Untouched b) (endsTrack b m)
     (λ _. record { frames = refl; last = refl; width = length-map (b .tracks) restarted })
     (λ _. lost-untouched ms b)
 
-lost-good : (ms : List Marked) (b : Buffer) → allOf (λ (f : Frame). resultTime (f .pts)) (framesOf ms) ≡ true → Good b → Good (afterLoss ms b)
+-- the group after a loss is the same or the next
+pub lost-number : (ms : List Marked) (b : Buffer) → b .group .number ≤ afterLoss ms b .group .number
 unfolding afterLoss
-lost-good [] b e g = g
-lost-good (m ∷ ms) b e g =
+lost-number [] b = omega arith
+lost-number (m ∷ ms) b =
+    by-test (λ (c : Buffer). b .group .number ≤ c .group .number) (endsTrack b m)
+    (λ _. omega (arith, regrouped-number b (m .frame .pts)))
+    (λ _. lost-number ms b)
+
+lost-good : (ms : List Marked) (b : Buffer) → allOf (λ (f : Frame). resultTime (f .pts)) (framesOf ms) ≡ true → Good b
+    → (endsAny ms b && inLastGroup b) ≡ false → Good (afterLoss ms b)
+unfolding afterLoss endsAny
+lost-good [] b e g more = g
+lost-good (m ∷ ms) b e g more =
     by-test Good (endsTrack b m)
-    (λ _. regrouped-good b (m .frame .pts) g (all-first (λ (f : Frame). resultTime (f .pts)) (m .frame) (framesOf ms) e))
-    (λ _. lost-good ms b (all-rest (λ (f : Frame). resultTime (f .pts)) (m .frame) (framesOf ms) e) g)
+    (λ t. regrouped-good b (m .frame .pts) g (all-first (λ (f : Frame). resultTime (f .pts)) (m .frame) (framesOf ms) e) (rw t at more))
+    (λ t. lost-good ms b (all-rest (λ (f : Frame). resultTime (f .pts)) (m .frame) (framesOf ms) e) g (rw t at more))
 
 -- ---- the removal
 
@@ -49,17 +59,20 @@ module _ (s : ℤ) (e : Bound) (b : Buffer) where
   goes f = leZ s (f .pts) && beforeBound (f .pts) (farEdge (f .track) e (b .frames))
 
   -- Preservation: a good buffer stays good.
-  pub removed-good : Good b → Good (removed s e b .after)
-  unfolding removed removalMarks goes
-  removed-good g =
+  pub removed-good : removalLacksGroup s e b ≡ false → Good b → Good (removed s e b .after)
+  unfolding removed removalLacksGroup removalMarks goes
+  removed-good more g =
       let marks = removalMarks s e (b .frames) in
       let u = lost-untouched marks b in
       let early : allOf (λ (f : Frame). resultTime (f .pts)) (b .frames) ≡ true =
-      all-weaker (goodFrame (length (b .tracks)) (b .last)) _ (λ f h. frame-facts (length (b .tracks)) (b .last) f h .pts) (b .frames) (g .frames .each) in
-      let c = lost-good marks b (rw (marks-frames goes 6 (b .frames)) early) g in
+      all-weaker (goodFrame (length (b .tracks)) (b .last) (b .group .number)) _ (λ f h. frame-facts (length (b .tracks)) (b .last) (b .group .number) f h .pts) (b .frames) (g .frames .each) in
+      let c = lost-good marks b (rw (marks-frames goes 6 (b .frames)) early) g more in
       record {
         tracks = c .tracks;
-        frames = rw (u .width, u .last) (frames-left (length (b .tracks)) (b .last) (b .frames) (g .frames) goes 6);
+        frames =
+            rw (u .width, u .last)
+            (frames-later (length (b .tracks)) (b .last) (b .group .number) _ (frames-left (length (b .tracks)) (b .last) (b .group .number) (b .frames) (g .frames) goes 6)
+            (b .last) (afterLoss marks b .group .number) (omega arith) (lost-number marks b));
         last = c .last;
         group = c .group;
         settings = c .settings;

@@ -20,8 +20,8 @@ use Rattle.buffer_laws.proofs.GoodLaws.{frame-facts, Good}
 good-lasts : (b : Buffer) → Good b → allOf lasts (b .frames) ≡ true
 unfolding goodDuration
 good-lasts b g =
-    all-weaker (goodFrame (length (b .tracks)) (b .last)) lasts
-    (λ f e. and-left (leb 1 (f .duration)) _ (frame-facts (length (b .tracks)) (b .last) f e .duration)) (b .frames) (g .frames .each)
+    all-weaker (goodFrame (length (b .tracks)) (b .last) (b .group .number)) lasts
+    (λ f e. and-left (leb 1 (f .duration)) _ (frame-facts (length (b .tracks)) (b .last) (b .group .number) f e .duration)) (b .frames) (g .frames .each)
 
 module _ (b : Buffer) (g : Good b) where
   -- A track's ranges rise, each ending strictly before the next starts.

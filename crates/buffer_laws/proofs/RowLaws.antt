@@ -1,15 +1,15 @@
 -- A frame and its two rows, a list of frames and two arrays: lengths, the one at a place, a row set, and the way there and back.
-use mathlib.Core.Path.{_≡_, refl, sym, ap, ap₂, _∙_}
+use mathlib.Core.Path.{_≡_, refl, sym, ap, ap₂}
 use mathlib.Core.Bool.{Bool, true, false}
 use mathlib.Core.List.{List, [], _∷_}
 use Prim.Native.Nat.{ℕ, zero, suc, _≤_, _<_}
 use native.Mathlib.Nat.{not-suc-le-zero}
 use native.Mathlib.Omega.{arith}
-use lib.Dec.{leb, eqb}
+use lib.Dec.{eqb}
 use lib.IntN.{ℤ}
 use lib.ListN.{length, getD, set, length-map}
-use borrow.Author.Tests.{eqb-true, leb-true, eq-eqb, le-leb}
-use Rattle.laws.proofs.BoolLaws.{and-left, and-right, and-both}
+use borrow.Author.Tests.{eqb-true, leb-true, le-leb}
+use Rattle.laws.proofs.BoolLaws.{and-left, and-right}
 use Rattle.buffer_state.specs.declared.Frame.{Frame}
 use Rattle.buffer_state.specs.Layout.{zeroFrame}
 use Rattle.buffer_state.specs.Lent.{flagOut, timeOf, tagOf, frameOf, framesOf, timesOf, tagsOf, plainTime, plainTag}
@@ -53,6 +53,7 @@ row-back f = λ j. record {
   flagged = flag-back (f .flagged) j;
   duration = f .duration;
   number = f .number;
+  group = f .group;
   pts = f .pts;
   dts = f .dts;
 }
@@ -83,13 +84,14 @@ flag-out zero h = refl
 flag-out (suc zero) h = refl
 flag-out (suc (suc n)) h = absurd (omega arith)
 
-tag-back : (t : List ℤ) (g : List ℕ) → length g ≡ 4 → getD g 1 0 ≤ 1 → g ≡ tagOf (frameOf t g)
+tag-back : (t : List ℤ) (g : List ℕ) → length g ≡ 5 → getD g 1 0 ≤ 1 → g ≡ tagOf (frameOf t g)
 tag-back t [] e h = absurd (omega (arith, e))
 tag-back t (a ∷ []) e h = absurd (omega (arith, e))
 tag-back t (a ∷ b ∷ []) e h = absurd (omega (arith, e))
 tag-back t (a ∷ b ∷ c ∷ []) e h = absurd (omega (arith, e))
-tag-back t (a ∷ b ∷ c ∷ d ∷ []) e h = ap (λ (x : ℕ). a ∷ x ∷ c ∷ d ∷ []) (flag-out b h)
-tag-back t (a ∷ b ∷ c ∷ d ∷ x ∷ g) e h = absurd (omega (arith, e))
+tag-back t (a ∷ b ∷ c ∷ d ∷ []) e h = absurd (omega (arith, e))
+tag-back t (a ∷ b ∷ c ∷ d ∷ k ∷ []) e h = ap (λ (x : ℕ). a ∷ x ∷ c ∷ d ∷ k ∷ []) (flag-out b h)
+tag-back t (a ∷ b ∷ c ∷ d ∷ k ∷ x ∷ g) e h = absurd (omega (arith, e))
 
 pub rows-back : (ts : List (List ℤ)) (gs : List (List ℕ)) → length ts ≡ length gs → allOf plainTime ts ≡ true → allOf plainTag gs ≡ true
     → (ts ≡ timesOf (framesOf ts gs)) × (gs ≡ tagsOf (framesOf ts gs))
@@ -100,7 +102,7 @@ rows-back (t ∷ ts) [] e a b = absurd (omega (arith, e))
 rows-back (t ∷ ts) (g ∷ gs) e a b =
     let known = all-first plainTag g gs b in
     let p = time-back t g (eqb-true (length t) 2 (all-first plainTime t ts a)) in
-    let q = tag-back t g (eqb-true (length g) 4 (and-left _ _ known)) (leb-true (getD g 1 0) 1 (and-right (eqb (length g) 4) _ known)) in
+    let q = tag-back t g (eqb-true (length g) 5 (and-left _ _ known)) (leb-true (getD g 1 0) 1 (and-right (eqb (length g) 5) _ known)) in
     let r = rows-back ts gs (omega (arith, e)) (all-rest plainTime t ts a) (all-rest plainTag g gs b) in
     (λ j. p j ∷ r .0 j, λ j. q j ∷ r .1 j)
 

@@ -1,6 +1,6 @@
 -- Each call of a run keeps a good buffer good and accounts for every number; so does a whole run, by induction over its calls.
 use mathlib.Core.Path.{_≡_, refl}
-use mathlib.Core.Bool.{true, not, _||_}
+use mathlib.Core.Bool.{true, false, not, _||_}
 use mathlib.Core.List.{List, [], _∷_, append-nil}
 use Prim.Native.Nat.{ℕ}
 use lib.Dec.{ltb}
@@ -17,26 +17,26 @@ use Rattle.buffer_state.specs.Limits.{places}
 use Rattle.buffer_state.specs.Refusals.{Result, refused, done}
 use Rattle.buffer_state.specs.Append.{Outcome, append}
 use Rattle.buffer_state.specs.Batch.{Batch, mostFrames, batchLines, batch}
-use Rattle.buffer_state.specs.Remove.{beforeBound, removed, remove}
+use Rattle.buffer_state.specs.Remove.{beforeBound, removalLacksGroup, removed, remove}
 use Rattle.buffer_state.specs.Ranges.{Range, trackRanges, commonRanges}
-use Rattle.buffer_state.specs.Settings.{create, aborted, modeSet, offsetSet, windowStartSet, windowEndSet}
+use Rattle.buffer_state.specs.Settings.{create, abort, modeSet, offsetSet, windowStartSet, windowEndSet}
 use Rattle.buffer_state.specs.Run.{Call, appendCall, removeCall, abortCall, modeCall, offsetCall, windowStartCall, windowEndCall, readCall, rangesCall, commonCall, batchCall, walkedCall, Answer, ok, ranges, Reply, byOutcome, bySetting, byRanges, byBatch, byWalked, replyTo, run, lastOf, linesIn, handedOut, offeredBy, offers, onOffered}
 use Rattle.buffer_state.specs.Walked.{walked}
 use Rattle.buffer_laws.proofs.LayoutLaws.{good-well-formed, well-formed-good}
 use Rattle.buffer_laws.proofs.GoodLaws.{Good, good-facts, facts-good}
 use Rattle.buffer_laws.proofs.RemoveLaws.{removed-good, removed-accounts, removed-all}
-use Rattle.buffer_laws.proofs.SettingLaws.{IfDone, created-good, Set, aborted-good, aborted-untouched, mode-good, mode-untouched, offset-set, window-start-set, window-end-set}
+use Rattle.buffer_laws.proofs.SettingLaws.{IfDone, created-good, Set, mode-good, mode-untouched, abort-set, offset-set, window-start-set, window-end-set}
 use Rattle.buffer_laws.proofs.CallLaws.{numbersAfter, Lawful, still, same, both-lawful, OneLawful, append-lawful}
 use Rattle.buffer_laws.proofs.BatchLaws.{each-lawful}
 
 -- ---- each call
 
-remove-lawful : (b : Buffer) (s : ℤ) (e : Bound) → Lawful b [] (removed s e b .lines) (removed s e b .after)
+remove-lawful : (b : Buffer) (s : ℤ) (e : Bound) → removalLacksGroup s e b ≡ false → Lawful b [] (removed s e b .lines) (removed s e b .after)
 unfolding numbersAfter
-remove-lawful b s e =
+remove-lawful b s e more =
     let law = removed-accounts s e b in
     record {
-      good = removed-good s e b;
+      good = removed-good s e b more;
       weight = law .weight;
       last = law .last;
       causes = law .causes;
@@ -71,8 +71,9 @@ reply-lawful (removeCall lent start end) b =
     by-test Law (ltb lent places) (λ _. same b)
     (λ _. by-test Law (not (convertible start) || not (convertibleEnd end)) (λ _. same b)
     (λ _. by-test Law (ltZ (microsOf start) (pos 0) || not (beforeBound (microsOf start) (boundOf end))) (λ _. same b)
-    (λ _. remove-lawful b (microsOf start) (boundOf end))))
-reply-lawful abortCall b = still b (aborted b) (aborted-good b) (aborted-untouched b)
+    (λ _. by-test Law (removalLacksGroup (microsOf start) (boundOf end) b) (λ _. same b)
+    (λ more. remove-lawful b (microsOf start) (boundOf end) more))))
+reply-lawful abortCall b = setting-lawful abortCall b (abort b) (λ _. refl) (abort-set b)
 reply-lawful (modeCall m) b = still b (modeSet m b) (mode-good m b) (mode-untouched m b)
 reply-lawful (offsetCall x) b = setting-lawful (offsetCall x) b (offsetSet x b) (λ _. refl) (offset-set x b)
 reply-lawful (windowStartCall x) b = setting-lawful (windowStartCall x) b (windowStartSet x b) (λ _. refl) (window-start-set x b)

@@ -2,7 +2,7 @@
 use mathlib.Core.Path.{_≡_, refl}
 use mathlib.Core.Bool.{Bool, true, false, cond, not, _||_}
 use mathlib.Core.List.{List, [], map}
-use Prim.Native.Nat.{ℕ, _≤_}
+use Prim.Native.Nat.{ℕ, _+_, _≤_}
 use native.Mathlib.Omega.{arith}
 use lib.Dec.{ltb, eqb}
 use lib.IntN.{ℤ, pos, negℤ}
@@ -20,14 +20,14 @@ use Rattle.buffer_state.specs.declared.Mode.the-variants.{Segments, Sequence}
 use Rattle.buffer_state.specs.declared.Settings.{Settings}
 use Rattle.buffer_state.specs.declared.WindowEnd.{WindowEnd}
 use Rattle.buffer_state.specs.declared.WindowEnd.the-variants.{Unbounded, At}
-use Rattle.buffer_state.specs.Buffer.{Buffer, withMode, withSettings, restarted, freshTrack, fresh, isSequence, startAtEnd}
+use Rattle.buffer_state.specs.Buffer.{Buffer, withMode, withSettings, restarted, freshTrack, fresh, isSequence, startAtEnd, inLastGroup}
 use Rattle.buffer_state.specs.Limits.{resultTime, mostTracks, knownKind}
 use Rattle.buffer_state.specs.Refusals.{Result, refused, done}
 use Rattle.buffer_state.specs.Remove.{beforeBound}
-use Rattle.buffer_state.specs.Settings.{create, aborted, modeSet, given, offsetSet, boundAt, windowEnd, windowStartSet, endAt, limitAt, windowEndSet}
+use Rattle.buffer_state.specs.Settings.{create, aborted, abort, modeSet, given, offsetSet, boundAt, windowEnd, windowStartSet, endAt, limitAt, windowEndSet}
 use Rattle.buffer_state.specs.WellFormed.{allOf, converts, goodTrack, goodTracks, goodCount, sorted, distinctNumbers, goodGroup, goodOffset, goodStart, goodEnd}
 use Rattle.buffer_laws.proofs.TestLaws.{all-map, all-none, pairs-none}
-use Rattle.buffer_laws.proofs.GoodLaws.{restarted-good, tracks-map, group-end, starting-good, GoodSettings, Good, group-changed, settings-changed, mode-changed}
+use Rattle.buffer_laws.proofs.GoodLaws.{restarted-good, tracks-map, group-end, group-number, starting-good, GoodSettings, Good, group-changed, next-good, settings-changed, mode-changed}
 use Rattle.buffer_laws.proofs.AppendLaws.{Untouched}
 
 -- ---- kept doubles
@@ -87,26 +87,12 @@ created-good kinds =
       settings = zero-settings;
     })
 
--- ---- abort and mode
-
-pub aborted-good : (b : Buffer) → Good b → Good (aborted b)
-unfolding aborted goodEnd sameInt
-aborted-good b g = record {
-  tracks = tracks-map (b .tracks) (g .tracks) restarted restarted-good;
-  frames = rw (length-map (b .tracks) restarted) (g .frames);
-  last = g .last;
-  group = by-test (λ (x : Group). goodGroup x ≡ true) (isSequence (b .mode)) (λ _. starting-good (b .group) (g .group)) (λ _. g .group);
-  settings = record { offset = g .settings .offset; start = zero-start; end = refl };
-}
-
-pub aborted-untouched : (b : Buffer) → Untouched b (aborted b)
-unfolding aborted
-aborted-untouched b = record { frames = refl; last = refl; width = length-map (b .tracks) restarted }
+-- ---- mode
 
 pub mode-good : (m : Mode) (b : Buffer) → Good b → Good (modeSet m b)
 unfolding modeSet
 mode-good Segments b g = mode-changed b g Segments
-mode-good Sequence b g = group-changed (withMode b Sequence) (mode-changed b g Sequence) (startAtEnd (b .group)) (starting-good (b .group) (g .group))
+mode-good Sequence b g = group-changed (withMode b Sequence) (mode-changed b g Sequence) (startAtEnd (b .group)) (starting-good (b .group) (g .group)) refl
 
 pub mode-untouched : (m : Mode) (b : Buffer) → Untouched b (modeSet m b)
 unfolding modeSet
@@ -118,6 +104,34 @@ mode-untouched Sequence b = record { frames = refl; last = refl; width = refl }
 pub record Set (b c : Buffer) : Type 0 where
   pub good : Good b → Good c
   pub untouched : Untouched b c
+
+-- an abort begins the next group
+pub aborted-number : (b : Buffer) → aborted b .group .number ≡ b .group .number + 1
+unfolding aborted
+aborted-number b = by-test (λ (g : Group). g .number + 1 ≡ b .group .number + 1) (isSequence (b .mode)) (λ _. refl) (λ _. refl)
+
+aborted-good : (b : Buffer) → Good b → inLastGroup b ≡ false → Good (aborted b)
+unfolding aborted goodEnd sameInt
+aborted-good b g more =
+    let group : Group = cond (isSequence (b .mode)) (startAtEnd (b .group)) (b .group) in
+    let same : group .number ≡ b .group .number =
+    by-test (λ (x : Group). x .number ≡ b .group .number) (isSequence (b .mode)) (λ _. refl) (λ _. refl) in
+    next-good _ (record {
+      tracks = tracks-map (b .tracks) (g .tracks) restarted restarted-good;
+      frames = rw (length-map (b .tracks) restarted, same) (g .frames);
+      last = g .last;
+      group = by-test (λ (x : Group). goodGroup x ≡ true) (isSequence (b .mode)) (λ _. starting-good (b .group) (g .group)) (λ _. g .group);
+      settings = record { offset = g .settings .offset; start = zero-start; end = refl };
+    }) (rw same more)
+
+pub abort-set : (b : Buffer) → IfDone (Set b) (abort b)
+unfolding abort aborted
+abort-set b =
+    by-test (IfDone (Set b)) (inLastGroup b) (λ _. tt)
+    (λ more. record {
+      good = λ g. aborted-good b g more;
+      untouched = record { frames = refl; last = refl; width = length-map (b .tracks) restarted };
+    })
 
 pub offset-set : (x : Float) (b : Buffer) → IfDone (Set b) (offsetSet x b)
 unfolding offsetSet goodOffset goodGroup
@@ -134,7 +148,8 @@ offset-set x b =
     }) in
     by-test (Set b) (isSequence (b .mode))
     (λ _. record {
-      good = λ g. group-changed (withSettings b new) (good g) _ (and-both (group-end (b .group) (g .group)) z);
+      good = λ g.
+          group-changed (withSettings b new) (good g) _ (and-both (group-end (b .group) (g .group)) (and-both z (group-number (b .group) (g .group)))) refl;
       untouched = record { frames = refl; last = refl; width = refl };
     })
     (λ _. record { good = good; untouched = record { frames = refl; last = refl; width = refl } }))

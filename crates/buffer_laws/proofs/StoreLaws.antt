@@ -30,7 +30,7 @@ mark-frames p c (f ∷ fs) = ap (λ (l : List Frame). f ∷ l) (mark-frames p c 
 walk-one-frame : (walked : List Marked) (m : Marked) → walkOne walked m .frame ≡ m .frame
 walk-one-frame walked m =
     by-test (λ (n : Marked). n .frame ≡ m .frame)
-    (not (isTaken m) && (not (m .frame .flagged) && followsTaken (m .frame .track) walked)) (λ _. refl) (λ _. refl)
+    (not (isTaken m) && (not (m .frame .flagged) && followsTaken (m .frame .track) (m .frame .group) walked)) (λ _. refl) (λ _. refl)
 
 walk-from-frames : (walked ms : List Marked) → framesOf (walkFrom walked ms) ≡ framesOf ms
 unfolding walkFrom
@@ -120,7 +120,7 @@ unfolding walkFrom
 walked-causes q h walked [] e = e
 walked-causes q h walked (m ∷ ms) e =
     all-more (causeIf q) (walkOne walked m) (walkFrom (walkOne walked m ∷ walked) ms)
-    (by-test (λ (n : Marked). causeIf q n ≡ true) (not (isTaken m) && (not (m .frame .flagged) && followsTaken (m .frame .track) walked))
+    (by-test (λ (n : Marked). causeIf q n ≡ true) (not (isTaken m) && (not (m .frame .flagged) && followsTaken (m .frame .track) (m .frame .group) walked))
     (λ _. h) (λ _. all-first (causeIf q) m ms e))
     (walked-causes q h (walkOne walked m ∷ walked) ms (all-rest (causeIf q) m ms e))
 

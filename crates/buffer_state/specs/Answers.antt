@@ -26,7 +26,7 @@ use Rattle.buffer_state.specs.Lent.{headOf, timesIn, tagsIn, onLent}
 use Rattle.buffer_state.specs.Ranges.{Range, trackRanges, commonRanges}
 use Rattle.buffer_state.specs.Refusals.{Result, refused, done}
 use Rattle.buffer_state.specs.Remove.{remove}
-use Rattle.buffer_state.specs.Settings.{create, aborted, modeSet, offsetSet, windowStartSet, windowEndSet, Reading, reading}
+use Rattle.buffer_state.specs.Settings.{create, abort, modeSet, offsetSet, windowStartSet, windowEndSet, Reading, reading}
 use Rattle.buffer_state.specs.Store.{Line}
 use Rattle.buffer_state.specs.Walked.{walked}
 
@@ -36,7 +36,7 @@ changed h (refused why) = record { answer = Refused why; head = h }
 changed h (done b) = record { answer = Done; head = headOf b }
 
 unfoldable pub abortAnswer : Head → List (List ℤ) → List (List ℕ) → Changed
-abortAnswer h ts gs = changed h (onLent (λ (b : Buffer). done (aborted b)) h ts gs)
+abortAnswer h ts gs = changed h (onLent abort h ts gs)
 
 unfoldable pub modeAnswer : Mode → Head → List (List ℤ) → List (List ℕ) → Changed
 modeAnswer m h ts gs = changed h (onLent (λ (b : Buffer). done (modeSet m b)) h ts gs)

@@ -14,7 +14,7 @@ use Rattle.buffer_state.specs.declared.Settings.{Settings}
 use Rattle.buffer_state.specs.declared.WindowEnd.{WindowEnd}
 use Rattle.buffer_state.specs.declared.WindowEnd.the-variants.{Unbounded, At}
 use Rattle.buffer_state.specs.declared.Refusal.the-variants.{ShortFates, NoTrack, FrameLimits, ResultLimits, Full, LastNumber}
-use Rattle.buffer_state.specs.Buffer.{Buffer, withTracks, withGroup, withLast, withTrack, trackOf, hasTrack, withNeed, needForAll, restartAll, isSequence, startAtEnd, withEnd}
+use Rattle.buffer_state.specs.Buffer.{Buffer, withTracks, withGroup, withLast, withTrack, trackOf, hasTrack, withNeed, needForAll, restartAll, isSequence, startAtEnd, withEnd, inNextGroup, inLastGroup}
 use Rattle.buffer_state.specs.Limits.{offeredTime, resultTime, goodDuration, places, lastNumber}
 use Rattle.buffer_state.specs.Refusals.{Result, done, refuseIf}
 use Rattle.buffer_state.specs.Store.{Marked, markWhere, walk, kept, Line, linesOf, insertSorted}
@@ -39,7 +39,7 @@ stepOne b f =
       tracks = needForAll (b .tracks);
       frames = b .frames;
       mode = b .mode;
-      group = record { begun = false; start = pos 0; end = b .group .start };
+      group = record { begun = false; start = pos 0; end = b .group .start; number = b .group .number };
       last = b .last;
       settings = withOffset (b .settings) (b .group .start -ℤ f .pts);
     })
@@ -71,11 +71,14 @@ fits p =
 -- ---- step 3
 
 -- In segments mode group end = p, in sequence mode group start = group end; unset last decode time, last duration and
--- highest end on all tracks; need-random-access on for all. Step 3 and removal both do this.
-unfoldable pub regrouped : Buffer → ℤ → Buffer
-regrouped b p =
+-- highest end on all tracks; need-random-access on for all. Step 3 and removal both do this, and the next group begins with it.
+unfoldable pub moved : Buffer → ℤ → Buffer
+moved b p =
     withTracks (withGroup b (cond (isSequence (b .mode)) (startAtEnd (b .group)) (withEnd (b .group) p)))
     (restartAll (b .tracks))
+
+unfoldable pub regrouped : Buffer → ℤ → Buffer
+regrouped b p = inNextGroup (moved b p)
 
 -- Step 3's test: the track's last decode time is set, and D is below it or exceeds it by more than twice the last duration.
 unfoldable pub breaks : Pass → Bool
@@ -94,6 +97,10 @@ lastPass b f = let p = passOf b f in cond (breaks p) (secondPass b f) p
 -- Refusal 7: in either pass, offset, P, D or frame end leaves the result limits.
 unfoldable pub leavesLimits : Buffer → Offered → Bool
 leavesLimits b f = let p = passOf b f in not (fits p) || (breaks p && not (fits (secondPass b f)))
+
+-- Refusal 9 asks this beside the last number: the frame would begin a group after the last one.
+unfoldable pub lacksGroup : Buffer → Offered → Bool
+lacksGroup b f = breaks (passOf b f) && inLastGroup b
 
 -- ---- steps 4 to 6: the frame takes the next number, dropped or not
 
@@ -144,8 +151,17 @@ overlapMarks p = walk (markWhere (overlapped (trackOf (p .buffer) (p .frame .tra
 abbrev pub raised : ℤ → ℤ → ℤ
 raised a b = cond (ltZ a b) b a
 
-abbrev pub storedAs : ℕ → Offered → Frame
-storedAs n f = record { track = f .track; flagged = f .flagged; duration = f .duration; number = n; pts = f .pts; dts = f .dts }
+-- a frame as it is stored: with its number, and the group in which it is stored
+abbrev pub storedAs : ℕ → ℕ → Offered → Frame
+storedAs n group f = record {
+  track = f .track;
+  flagged = f .flagged;
+  duration = f .duration;
+  number = n;
+  group = group;
+  pts = f .pts;
+  dts = f .dts;
+}
 
 -- the track after step 9: last decode time and last duration set, highest end raised, or set if unset
 abbrev pub followed : Track → Offered → Track
@@ -165,7 +181,7 @@ stepNine p left =
     let f = p .frame in
     record {
       tracks = withTrack b (f .track) (followed (trackOf b (f .track)) f) .tracks;
-      frames = insertSorted (storedAs (nextNumber b) f) left;
+      frames = insertSorted (storedAs (nextNumber b) (b .group .number) f) left;
       mode = b .mode;
       group = withEnd (b .group) (raised (b .group .end) (endOffered f));
       last = nextNumber b;
@@ -195,7 +211,7 @@ appended b f = settled (lastPass b f)
 unfoldable pub offerable : Offered → Bool
 offerable f = offeredTime (f .pts) && (offeredTime (f .dts) && goodDuration (f .duration))
 
--- Append one frame, with so many lines lent: refusals (1,) 2, 3, 4, 9, 7, 8 in that order.
+-- Append one frame, with so many lines lent: refusals (1,) 2, 3, 4, 9 (the number), 7, 9 (the group), 8 in that order.
 unfoldable pub append : ℕ → Offered → Buffer → Result Outcome
 append lent f b =
     refuseIf (ltb lent places) ShortFates
@@ -203,5 +219,6 @@ append lent f b =
     (refuseIf (not (offerable f)) FrameLimits
     (refuseIf (eqb (b .last) lastNumber) LastNumber
     (refuseIf (leavesLimits b f) ResultLimits
+    (refuseIf (lacksGroup b f) LastNumber
     (refuseIf (ltb places (length (appended b f .after .frames))) Full
-    (done (appended b f)))))))
+    (done (appended b f))))))))

@@ -2,9 +2,9 @@
 -- Layout.antt says how a State holds it.
 use mathlib.Core.Bool.{Bool, true, false}
 use mathlib.Core.List.{List, [], map}
-use Prim.Native.Nat.{ℕ, _-_}
+use Prim.Native.Nat.{ℕ, _+_, _-_}
 use lib.IntN.{ℤ, pos, _+ℤ_}
-use lib.Dec.{leb}
+use lib.Dec.{leb, eqb}
 use lib.ListN.{length, getD, set}
 use mathlib.Core.Bool.{_&&_}
 use Rattle.seconds.specs.Seconds.{zeroSeconds}
@@ -16,6 +16,7 @@ use Rattle.buffer_state.specs.declared.Group.{Group}
 use Rattle.buffer_state.specs.declared.Setting.{Setting}
 use Rattle.buffer_state.specs.declared.WindowEnd.the-variants.{Unbounded}
 use Rattle.buffer_state.specs.declared.Settings.{Settings}
+use Rattle.buffer_state.specs.Limits.{lastGroup}
 
 pub record Buffer : Type 0 where
   pub tracks : List Track
@@ -82,10 +83,21 @@ isSequence Sequence = true
 
 -- group start = group end
 abbrev pub startAtEnd : Group → Group
-startAtEnd g = record { begun = true; start = g .end; end = g .end }
+startAtEnd g = record { begun = true; start = g .end; end = g .end; number = g .number }
 
 abbrev pub withEnd : Group → ℤ → Group
-withEnd g z = record { begun = g .begun; start = g .start; end = z }
+withEnd g z = record { begun = g .begun; start = g .start; end = z; number = g .number }
+
+-- Document 02, No. 4: the group number rises by one whenever the three values are unset on all tracks.
+abbrev pub nextGroup : Group → Group
+nextGroup g = record { begun = g .begun; start = g .start; end = g .end; number = g .number + 1 }
+
+abbrev pub inNextGroup : Buffer → Buffer
+inNextGroup b = withGroup b (nextGroup (b .group))
+
+-- no group can follow
+abbrev pub inLastGroup : Buffer → Bool
+inLastGroup b = eqb (b .group .number) lastGroup
 
 -- ---- frames
 
@@ -104,13 +116,13 @@ freshSettings = record { offset = zeroSetting; start = zeroSetting; end = Unboun
     zeroSetting : Setting
     zeroSetting = record { seconds = zeroSeconds; micros = pos 0 }
 
--- Everything unset, group end 0, segments mode, need-random-access on for every track, no frames, last number 0.
+-- Everything unset, group end 0, group number 0, segments mode, need-random-access on for every track, no frames, last number 0.
 abbrev pub fresh : List ℕ → Buffer
 fresh kinds = record {
   tracks = map freshTrack kinds;
   frames = [];
   mode = Segments;
-  group = record { begun = false; start = pos 0; end = pos 0 };
+  group = record { begun = false; start = pos 0; end = pos 0; number = 0 };
   last = 0;
   settings = freshSettings;
 }

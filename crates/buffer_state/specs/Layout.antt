@@ -13,7 +13,7 @@ use Rattle.buffer_state.specs.State.{State}
 use Rattle.buffer_state.specs.WellFormed.{allOf, zeroInt, goodBuffer}
 
 abbrev pub zeroFrame : Frame
-zeroFrame = record { track = 0; flagged = false; duration = 0; number = 0; pts = pos 0; dts = pos 0 }
+zeroFrame = record { track = 0; flagged = false; duration = 0; number = 0; group = 0; pts = pos 0; dts = pos 0 }
 
 -- an array of n places that starts with these elements
 abbrev pub padded : {A : Type 0} → ℕ → A → List A → List A
@@ -45,7 +45,8 @@ bufferOf s = record {
 
 abbrev pub isZeroFrame : Frame → Bool
 isZeroFrame f =
-    eqb (f .track) 0 && (not (f .flagged) && (eqb (f .duration) 0 && (eqb (f .number) 0 && (zeroInt (f .pts) && zeroInt (f .dts)))))
+    eqb (f .track) 0 && (not (f .flagged)
+    && (eqb (f .duration) 0 && (eqb (f .number) 0 && (eqb (f .group) 0 && (zeroInt (f .pts) && zeroInt (f .dts))))))
 
 abbrev pub isZeroTrack : Track → Bool
 isZeroTrack t =

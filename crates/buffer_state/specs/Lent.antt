@@ -26,9 +26,9 @@ flagOut b = cond b 1 0
 abbrev pub timeOf : Frame → List ℤ
 timeOf f = f .pts ∷ f .dts ∷ []
 
--- track, flag, duration, number
+-- track, flag, duration, number, group
 abbrev pub tagOf : Frame → List ℕ
-tagOf f = f .track ∷ flagOut (f .flagged) ∷ f .duration ∷ f .number ∷ []
+tagOf f = f .track ∷ flagOut (f .flagged) ∷ f .duration ∷ f .number ∷ f .group ∷ []
 
 -- the frame that two rows hold, whatever their numbers
 abbrev pub frameOf : List ℤ → List ℕ → Frame
@@ -37,6 +37,7 @@ frameOf t g = record {
   flagged = eqb (getD g 1 0) 1;
   duration = getD g 2 0;
   number = getD g 3 0;
+  group = getD g 4 0;
   pts = getD t 0 (pos 0);
   dts = getD t 1 (pos 0);
 }
@@ -113,7 +114,7 @@ abbrev pub plainTime : List ℤ → Bool
 plainTime t = eqb (length t) 2
 
 abbrev pub plainTag : List ℕ → Bool
-plainTag g = eqb (length g) 4 && leb (getD g 1 0) 1
+plainTag g = eqb (length g) 5 && leb (getD g 1 0) 1
 
 -- 1,024 places, rows that hold a frame and nothing besides, and a state that is well-formed
 unfoldable pub wellFormedAt : Head → List (List ℤ) → List (List ℕ) → Bool

@@ -5,6 +5,7 @@ pub mod Refusals
 pub mod Store
 pub mod Append
 pub mod Batch
+pub mod Groups
 pub mod Remove
 pub mod Settings
 pub mod Ranges

@@ -31,6 +31,10 @@ mostTracks = 4
 abbrev pub lastNumber : ℕ
 lastNumber = 4294967295
 
+-- group numbers run from 0 to this one (document 02, No. 4)
+abbrev pub lastGroup : ℕ
+lastGroup = 4294967295
+
 -- video (0) and audio (1)
 abbrev pub knownKind : ℕ → Bool
 knownKind k = leb k 1

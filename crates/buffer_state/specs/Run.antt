@@ -15,7 +15,7 @@ use Rattle.buffer_state.specs.Store.{Line}
 use Rattle.buffer_state.specs.Append.{Outcome, append}
 use Rattle.buffer_state.specs.Batch.{Batch, batch}
 use Rattle.buffer_state.specs.Remove.{remove}
-use Rattle.buffer_state.specs.Settings.{aborted, modeSet, offsetSet, windowStartSet, windowEndSet, Reading, reading}
+use Rattle.buffer_state.specs.Settings.{abort, modeSet, offsetSet, windowStartSet, windowEndSet, Reading, reading}
 use Rattle.buffer_state.specs.Ranges.{Range, trackRanges, commonRanges}
 use Rattle.buffer_state.specs.Walked.{walked}
 
@@ -74,7 +74,7 @@ byWalked b (done n) = record { result = done (taken n); after = b }
 unfoldable pub replyTo : Call → Buffer → Reply
 replyTo (appendCall lent f) b = byOutcome b (append lent f b)
 replyTo (removeCall lent start end) b = byOutcome b (remove lent start end b)
-replyTo abortCall b = record { result = done ok; after = aborted b }
+replyTo abortCall b = bySetting b (abort b)
 replyTo (modeCall m) b = record { result = done ok; after = modeSet m b }
 replyTo (offsetCall x) b = bySetting b (offsetSet x b)
 replyTo (windowStartCall x) b = bySetting b (windowStartSet x b)

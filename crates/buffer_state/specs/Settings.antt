@@ -14,8 +14,8 @@ use Rattle.buffer_state.specs.declared.Setting.{Setting}
 use Rattle.buffer_state.specs.declared.Settings.{Settings}
 use Rattle.buffer_state.specs.declared.WindowEnd.{WindowEnd}
 use Rattle.buffer_state.specs.declared.WindowEnd.the-variants.{Unbounded, At}
-use Rattle.buffer_state.specs.declared.Refusal.the-variants.{Seconds, Order, Kinds}
-use Rattle.buffer_state.specs.Buffer.{Buffer, withMode, withGroup, withSettings, restartAll, isSequence, startAtEnd, fresh}
+use Rattle.buffer_state.specs.declared.Refusal.the-variants.{Seconds, Order, LastNumber, Kinds}
+use Rattle.buffer_state.specs.Buffer.{Buffer, withMode, withGroup, withSettings, restartAll, isSequence, startAtEnd, inNextGroup, inLastGroup, fresh}
 use Rattle.buffer_state.specs.Limits.{mostTracks, knownKind}
 use Rattle.buffer_state.specs.Refusals.{Result, done, refuseIf}
 use Rattle.buffer_state.specs.Remove.{beforeBound}
@@ -29,19 +29,25 @@ create kinds =
     refuseIf (eqb (length kinds) 0 || (ltb mostTracks (length kinds) || not (allOf knownKind kinds))) Kinds
     (done (fresh kinds))
 
--- ---- abort and mode: refused by 1 alone
+-- ---- abort: refusals (1,) 9
 
--- Unset the three on all tracks, need-random-access on for all, in sequence mode group start = group end, window back to
--- 0 and unbounded. The offset is kept.
+-- Unset the three on all tracks, with which the next group begins; need-random-access on for all, in sequence mode group start = group
+-- end, window back to 0 and unbounded. The offset is kept.
 unfoldable pub aborted : Buffer → Buffer
-aborted b = record {
+aborted b = inNextGroup (record {
   tracks = restartAll (b .tracks);
   frames = b .frames;
   mode = b .mode;
   group = cond (isSequence (b .mode)) (startAtEnd (b .group)) (b .group);
   last = b .last;
   settings = record { offset = b .settings .offset; start = record { seconds = zeroSeconds; micros = pos 0 }; end = Unbounded; limit = pos 0 };
-}
+})
+
+-- Refusal 9 in the last group, also where nothing is set.
+unfoldable pub abort : Buffer → Result Buffer
+abort b = refuseIf (inLastGroup b) LastNumber (done (aborted b))
+
+-- ---- mode: refused by 1 alone
 
 -- Setting sequence sets group start = group end; setting segments changes the mode only.
 unfoldable pub modeSet : Mode → Buffer → Buffer
@@ -59,7 +65,7 @@ offsetSet x b =
     let s = b .settings in
     let c = withSettings b (record { offset = given x; start = s .start; end = s .end; limit = s .limit }) in
     refuseIf (not (convertible x)) Seconds
-    (done (cond (isSequence (b .mode)) (withGroup c (record { begun = true; start = microsOf x; end = b .group .end })) c))
+    (done (cond (isSequence (b .mode)) (withGroup c (record { begun = true; start = microsOf x; end = b .group .end; number = b .group .number })) c))
 
 -- the window end in microseconds
 abbrev pub boundAt : WindowEnd → ℤ → Bound

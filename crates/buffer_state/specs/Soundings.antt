@@ -1,6 +1,6 @@
 -- Document 01, "Soundings to check against": cases A to K in one table, each with its whole outcome and an equation of its own, and one
--- proof of all; with them two refused calls of L in the midst of a run, two removals of our own, batches (document 02, No. 2), and how many
--- frames the walk of a report takes (No. 3).
+-- proof of all; with them two refused calls of L in the midst of a run, two removals of our own, batches (document 02, No. 2), how many frames
+-- the walk of a report takes (No. 3), and coded frame groups (No. 4).
 -- Video, one track, durations 100; R is a flagged frame, P one that is not, both given by presentation and decode time.
 use mathlib.Core.Path.{_≡_, refl}
 use mathlib.Core.Bool.{Bool, true, false}
@@ -15,17 +15,17 @@ use Rattle.buffer_state.specs.declared.Track.{Track}
 use Rattle.buffer_state.specs.declared.Mode.the-variants.{Segments, Sequence}
 use Rattle.buffer_state.specs.declared.Group.{Group}
 use Rattle.buffer_state.specs.declared.Offered.{Offered}
-use Rattle.buffer_state.specs.declared.Refusal.the-variants.{FrameLimits, LentSize, NoTrack, Seconds, ShortFates}
+use Rattle.buffer_state.specs.declared.Refusal.the-variants.{FrameLimits, LastNumber, LentSize, NoTrack, Seconds, ShortFates}
 use Rattle.buffer_state.specs.declared.Stop.the-variants.{Nothing, By}
 use Rattle.buffer_state.specs.declared.WindowEnd.the-variants.{Unbounded, At}
 use Rattle.buffer_state.specs.Buffer.{Buffer, fresh, freshTrack, freshSettings}
-use Rattle.buffer_state.specs.Limits.{offeredTime, resultTime, goodDuration, places}
+use Rattle.buffer_state.specs.Limits.{offeredTime, resultTime, goodDuration, places, lastGroup}
 use Rattle.buffer_state.specs.Refusals.{Result, refused, done}
 use Rattle.buffer_state.specs.Store.{before, insertSorted, followsTaken, walkFrom, kept, Line, linesOf}
-use Rattle.buffer_state.specs.Append.{stepOne, stepTwo, passOf, fits, regrouped, breaks, secondPass, lastPass, leavesLimits, overlapped, overlapMarks, stepNine, stored, settled, appended, offerable, append}
+use Rattle.buffer_state.specs.Append.{stepOne, stepTwo, passOf, fits, moved, regrouped, breaks, secondPass, lastPass, leavesLimits, lacksGroup, overlapped, overlapMarks, stepNine, stored, settled, appended, offerable, append}
 use Rattle.buffer_state.specs.Batch.{offeredIn, appendEach, batch}
-use Rattle.buffer_state.specs.Remove.{farEdge, removalMarks, afterLoss, removed, remove}
-use Rattle.buffer_state.specs.Settings.{aborted, modeSet, offsetSet, windowStartSet, windowEndSet}
+use Rattle.buffer_state.specs.Remove.{farEdge, removalMarks, afterLoss, endsAny, removalLacksGroup, removed, remove}
+use Rattle.buffer_state.specs.Settings.{aborted, abort, modeSet, offsetSet, windowStartSet, windowEndSet}
 use Rattle.buffer_state.specs.Ranges.{Range, joined, rangesOf}
 use Rattle.buffer_state.specs.Walked.{presentedWith, presented, takenFrom, takenOf, walked}
 use Rattle.buffer_state.specs.Run.{Call, appendCall, removeCall, abortCall, modeCall, offsetCall, windowStartCall, windowEndCall, batchCall, walkedCall, Answer, ok, fates, accepted, taken, Entry, replyTo, run, lastOf}
@@ -55,12 +55,16 @@ brief = record { track = 1; flagged = true; duration = 0; pts = pos 100; dts = p
 abbrev removing : Float → Float → Call
 removing = removeCall places
 
--- a stored frame: its number, its flag and its two times
-abbrev frameAt : ℕ → Bool → ℤ → ℤ → Frame
-frameAt n flagged p d = record { track = 1; flagged = flagged; duration = 100; number = n; pts = p; dts = d }
+-- a stored frame: its group, its number, its flag and its two times
+abbrev frameAt : ℕ → ℕ → Bool → ℤ → ℤ → Frame
+frameAt group n flagged p d = record { track = 1; flagged = flagged; duration = 100; number = n; group = group; pts = p; dts = d }
 
+abbrev frameOf : ℕ → ℕ → Bool → ℕ → ℕ → Frame
+frameOf group n flagged p d = frameAt group n flagged (pos p) (pos d)
+
+-- of group 0
 abbrev frame : ℕ → Bool → ℕ → ℕ → Frame
-frame n flagged p d = frameAt n flagged (pos p) (pos d)
+frame = frameOf 0
 
 -- the track with last decode time and highest end set, the last duration 100 and need-random-access off
 abbrev following : ℕ → ℕ → Track
@@ -70,9 +74,9 @@ following d e = record { kind = 0; known = true; need = false; duration = 100; d
 abbrev waiting : Track
 waiting = freshTrack 0
 
--- a group end, with no group start
-abbrev ending : ℕ → Group
-ending e = record { begun = false; start = pos 0; end = pos e }
+-- a group by its number, with a group end and no group start
+abbrev ending : ℕ → ℕ → Group
+ending group e = record { begun = false; start = pos 0; end = pos e; number = group }
 
 abbrev told : List Line → Result Answer
 told ls = done (fates ls)
@@ -86,9 +90,13 @@ range a b = record { start = pos a; end = pos b }
 abbrev double : ℕ → Float
 double = ofBits binary64
 
--- in segments mode with the settings of a fresh buffer: track, stored frames, group end, last number
+-- in segments mode with the settings of a fresh buffer: group number, track, stored frames, group end, last number
+abbrev plainIn : ℕ → Track → List Frame → ℕ → ℕ → Buffer
+plainIn group t fs e n = record { tracks = t ∷ []; frames = fs; mode = Segments; group = ending group e; last = n; settings = freshSettings }
+
+-- in group 0
 abbrev plain : Track → List Frame → ℕ → ℕ → Buffer
-plain t fs e n = record { tracks = t ∷ []; frames = fs; mode = Segments; group = ending e; last = n; settings = freshSettings }
+plain = plainIn 0
 
 -- the doubles nearest to 0.00005, 0.00015, 0.00025 and 0.00035
 abbrev at50 : Float
@@ -128,7 +136,7 @@ abbrev caseC : Case
 caseC = record {
   calls = R 0 0 ∷ P 100 100 ∷ P 400 301 ∷ [];
   results = told [] ∷ told [] ∷ told (line 3 3 ∷ []) ∷ [];
-  left = plain waiting (frame 1 true 0 0 ∷ frame 2 false 100 100 ∷ []) 400 3;
+  left = plainIn 1 waiting (frame 1 true 0 0 ∷ frame 2 false 100 100 ∷ []) 400 3;
   ranges = range 0 200 ∷ [];
 }
 
@@ -147,7 +155,7 @@ abbrev caseE : Case
 caseE = record {
   calls = R 0 0 ∷ P 100 100 ∷ P 200 200 ∷ R 300 300 ∷ abortCall ∷ R 100 100 ∷ [];
   results = told [] ∷ told [] ∷ told [] ∷ told [] ∷ done ok ∷ told (line 2 4 ∷ line 3 5 ∷ []) ∷ [];
-  left = plain (following 100 200) (frame 1 true 0 0 ∷ frame 5 true 100 100 ∷ frame 4 true 300 300 ∷ []) 400 5;
+  left = plainIn 1 (following 100 200) (frame 1 true 0 0 ∷ frameOf 1 5 true 100 100 ∷ frame 4 true 300 300 ∷ []) 400 5;
   ranges = range 0 200 ∷ range 300 400 ∷ [];
 }
 
@@ -156,7 +164,7 @@ abbrev caseF : Case
 caseF = record {
   calls = R 0 0 ∷ abortCall ∷ R 200 0 ∷ P 0 100 ∷ [];
   results = told [] ∷ done ok ∷ told [] ∷ told [] ∷ [];
-  left = plain (following 100 300) (frame 1 true 0 0 ∷ frame 2 true 200 0 ∷ frame 3 false 0 100 ∷ []) 300 3;
+  left = plainIn 1 (following 100 300) (frame 1 true 0 0 ∷ frameOf 1 2 true 200 0 ∷ frameOf 1 3 false 0 100 ∷ []) 300 3;
   ranges = range 0 100 ∷ range 200 300 ∷ [];
 }
 
@@ -168,9 +176,9 @@ caseG = record {
   results = done ok ∷ told [] ∷ told [] ∷ [];
   left = record {
     tracks = following 0 200 ∷ [];
-    frames = frameAt 1 true (pos 0) (negℤ (pos 100)) ∷ frame 2 true 100 0 ∷ [];
+    frames = frameAt 0 1 true (pos 0) (negℤ (pos 100)) ∷ frameOf 1 2 true 100 0 ∷ [];
     mode = Sequence;
-    group = ending 200;
+    group = ending 1 200;
     last = 2;
     settings = record {
       offset = record { seconds = double 0xbf82_3a29_c779_a6b5; micros = negℤ (pos 8900) };
@@ -196,7 +204,7 @@ abbrev caseI : Case
 caseI = record {
   calls = R 0 0 ∷ P 100 100 ∷ P 200 200 ∷ R 300 300 ∷ removing at150 at350 ∷ [];
   results = told [] ∷ told [] ∷ told [] ∷ told [] ∷ told (line 3 6 ∷ line 4 6 ∷ []) ∷ [];
-  left = plain waiting (frame 1 true 0 0 ∷ frame 2 false 100 100 ∷ []) 300 4;
+  left = plainIn 1 waiting (frame 1 true 0 0 ∷ frame 2 false 100 100 ∷ []) 300 4;
   ranges = range 0 200 ∷ [];
 }
 
@@ -209,7 +217,7 @@ caseJ p lines t fs e rs = record {
     tracks = t ∷ [];
     frames = fs;
     mode = Segments;
-    group = ending e;
+    group = ending 0 e;
     last = 1;
     settings = record { offset = freshSettings .offset; start = record { seconds = at50; micros = pos 50 }; end = At at150; limit = pos 150 };
   };
@@ -225,7 +233,7 @@ caseK bits z = record {
     tracks = waiting ∷ [];
     frames = [];
     mode = Segments;
-    group = ending 0;
+    group = ending 0 0;
     last = 0;
     settings = record { offset = record { seconds = double bits; micros = z }; start = freshSettings .start; end = Unbounded; limit = pos 0 };
   };
@@ -252,7 +260,7 @@ abbrev caseM : Case
 caseM = record {
   calls = R 100 0 ∷ R 0 100 ∷ P 200 200 ∷ removing zeroSeconds at50 ∷ [];
   results = told [] ∷ told [] ∷ told [] ∷ told (line 2 6 ∷ line 3 5 ∷ []) ∷ [];
-  left = plain waiting (frame 1 true 100 0 ∷ []) 200 3;
+  left = plainIn 1 waiting (frame 1 true 100 0 ∷ []) 200 3;
   ranges = range 100 200 ∷ [];
 }
 
@@ -262,7 +270,7 @@ abbrev caseN : Case
 caseN = record {
   calls = R 200 0 ∷ R 0 0 ∷ removing zeroSeconds at350 ∷ [];
   results = told [] ∷ told [] ∷ told (line 1 6 ∷ line 2 6 ∷ []) ∷ [];
-  left = plain waiting [] 200 2;
+  left = plainIn 1 waiting [] 200 2;
   ranges = [];
 }
 
@@ -296,7 +304,7 @@ abbrev caseP : Case
 caseP = record {
   calls = batchCall 1088 (offer false 0 0 ∷ offer true 0 0 ∷ offer true 100 100 ∷ offer true 0 0 ∷ []) ∷ [];
   results = done (accepted 4 Nothing (line 1 3 ∷ line 2 4 ∷ [])) ∷ [];
-  left = plain (following 0 100) (frame 4 true 0 0 ∷ frame 3 true 100 100 ∷ []) 100 4;
+  left = plainIn 1 (following 0 100) (frameOf 1 4 true 0 0 ∷ frame 3 true 100 100 ∷ []) 100 4;
   ranges = range 0 200 ∷ [];
 }
 
@@ -336,12 +344,69 @@ caseR = record {
   ranges = caseF .ranges;
 }
 
+-- The example of document 02, No. 4: step 8 does not walk from old frame 2 into new frame 4. Frames 1, 3, 4 and 5 stay, the last list is (2,4).
+abbrev caseS : Case
+caseS = record {
+  calls = R 0 0 ∷ P 400 150 ∷ abortCall ∷ R 200 100 ∷ P 300 200 ∷ P 400 250 ∷ [];
+  results = told [] ∷ told [] ∷ done ok ∷ told [] ∷ told [] ∷ told (line 2 4 ∷ []) ∷ [];
+  left =
+      plainIn 1 (following 250 500)
+      (frame 1 true 0 0 ∷ frameOf 1 3 true 200 100 ∷ frameOf 1 4 false 300 200 ∷ frameOf 1 5 false 400 250 ∷ []) 500 5;
+  ranges = range 0 100 ∷ range 200 500 ∷ [];
+}
+
+-- Ours: two groups whose frames stand among each other, 1 and 2 of group 0, 3, 4 and 5 of group 1; store order 1, 3, 2, 4, 5. A removal
+-- from 0.00005 to 0.00015 takes out 3 and 4, and the walk from 3 does not reach 2, whose own group lost nothing before it.
+abbrev caseT : Case
+caseT = record {
+  calls = R 0 0 ∷ P 500 150 ∷ abortCall ∷ R 100 50 ∷ P 200 200 ∷ R 300 250 ∷ removing at50 at150 ∷ [];
+  results = told [] ∷ told [] ∷ done ok ∷ told [] ∷ told [] ∷ told [] ∷ told (line 3 6 ∷ line 4 6 ∷ []) ∷ [];
+  left = plainIn 1 (following 250 400) (frame 1 true 0 0 ∷ frame 2 false 500 150 ∷ frameOf 1 5 true 300 250 ∷ []) 600 5;
+  ranges = range 0 100 ∷ range 300 400 ∷ range 500 600 ∷ [];
+}
+
+-- Ours: the same frames, and a removal from 0 to 0.00005. The walk goes from 1 to 2 past 3, which is flagged, untaken and of another group,
+-- so that it is no wall.
+abbrev caseU : Case
+caseU = record {
+  calls = R 0 0 ∷ P 500 150 ∷ abortCall ∷ R 100 50 ∷ P 200 200 ∷ R 300 250 ∷ removing zeroSeconds at50 ∷ [];
+  results = told [] ∷ told [] ∷ done ok ∷ told [] ∷ told [] ∷ told [] ∷ told (line 1 6 ∷ line 2 5 ∷ []) ∷ [];
+  left = plainIn 1 (following 250 400) (frameOf 1 3 true 100 50 ∷ frameOf 1 4 false 200 200 ∷ frameOf 1 5 true 300 250 ∷ []) 600 5;
+  ranges = range 100 400 ∷ [];
+}
+
+-- Ours: the same walk in an append, which takes out 1 of group 0 and 2 past 3 of group 1, and is of group 2 itself.
+abbrev caseW : Case
+caseW = record {
+  calls = R 0 0 ∷ P 500 150 ∷ abortCall ∷ R 100 50 ∷ abortCall ∷ R 0 0 ∷ [];
+  results = told [] ∷ told [] ∷ done ok ∷ told [] ∷ done ok ∷ told (line 1 4 ∷ line 2 5 ∷ []) ∷ [];
+  left = plainIn 2 (following 0 100) (frameOf 2 4 true 0 0 ∷ frameOf 1 3 true 100 50 ∷ []) 600 4;
+  ranges = range 0 200 ∷ [];
+}
+
+-- Ours, in the last group: an abort is refused 9, and so are a frame that breaks the group, which would then be dropped, and a removal that
+-- takes out the frame with the last decode time. What begins no group is done, and its frames are of the last one.
+abbrev caseX : Case
+caseX = record {
+  calls = abortCall ∷ R 0 0 ∷ P 100 100 ∷ P 400 301 ∷ removing at50 at150 ∷ R 200 200 ∷ removing at50 at150 ∷ [];
+  results =
+      refused LastNumber
+      ∷ told []
+      ∷ told []
+      ∷ refused LastNumber
+      ∷ refused LastNumber
+      ∷ told []
+      ∷ told (line 2 6 ∷ [])
+      ∷ [];
+  left = plainIn lastGroup (following 200 300) (frameOf lastGroup 1 true 0 0 ∷ frameOf lastGroup 3 true 200 200 ∷ []) 300 3;
+  ranges = range 0 100 ∷ range 200 300 ∷ [];
+}
+
 -- ---- the table
 
--- what the definitions make of a case's calls
-abbrev pub computed : Case → Case
-computed c =
-    let start = fresh (0 ∷ []) in
+-- what the definitions make of a case's calls, from a buffer on
+abbrev pub computed : Buffer → Case → Case
+computed start c =
     let end = lastOf start (c .calls) in
     record {
       calls = c .calls;
@@ -350,8 +415,11 @@ computed c =
       ranges = rangesOf 1 (end .frames);
     }
 
+abbrev pub HoldsFrom : Buffer → Case → Type 0
+HoldsFrom start c = computed start c ≡ c
+
 abbrev pub Holds : Case → Type 0
-Holds c = computed c ≡ c
+Holds = HoldsFrom (fresh (0 ∷ []))
 
 -- A line for each case, with its letter: where one fails, the error stands at its line in the proof below.
 pub record Table : Type 0 where
@@ -379,9 +447,14 @@ pub record Table : Type 0 where
   pub P : Holds caseP
   pub Q : Holds caseQ
   pub R : Holds caseR
+  pub S : Holds caseS
+  pub T : Holds caseT
+  pub U : Holds caseU
+  pub W : Holds caseW
+  pub X : HoldsFrom (plainIn lastGroup waiting [] 0 0) caseX
 
 pub soundings-hold : Table
-unfolding tieOf roundOf nearestOf convertible convertibleEnd microsOf secondsOf boundOf sameInt offeredTime resultTime goodDuration before insertSorted followsTaken walkFrom kept linesOf stepOne stepTwo passOf fits regrouped breaks secondPass lastPass leavesLimits overlapped overlapMarks stepNine stored settled appended offerable append appendEach batch farEdge removalMarks afterLoss removed remove aborted modeSet offsetSet windowStartSet windowEndSet joined rangesOf presentedWith presented takenFrom takenOf walked replyTo run lastOf ofBits ofInt div
+unfolding tieOf roundOf nearestOf convertible convertibleEnd microsOf secondsOf boundOf sameInt offeredTime resultTime goodDuration before insertSorted followsTaken walkFrom kept linesOf stepOne stepTwo passOf fits moved regrouped breaks secondPass lastPass leavesLimits lacksGroup overlapped overlapMarks stepNine stored settled appended offerable append appendEach batch farEdge removalMarks afterLoss endsAny removalLacksGroup removed remove aborted abort modeSet offsetSet windowStartSet windowEndSet joined rangesOf presentedWith presented takenFrom takenOf walked replyTo run lastOf ofBits ofInt div
 soundings-hold = record {
   A = refl;
   B = refl;
@@ -407,6 +480,11 @@ soundings-hold = record {
   P = refl;
   Q = refl;
   R = refl;
+  S = refl;
+  T = refl;
+  U = refl;
+  W = refl;
+  X = refl;
 }
 
 -- Rows of numbers as offered frames: one that is a frame, then tracks, durations and a flag that no frame can have.

@@ -35,19 +35,24 @@ isTaken m = not (eqb (m .cause) 0)
 abbrev pub markWhere : (Frame → Bool) → ℕ → List Frame → List Marked
 markWhere p c = map (λ (f : Frame). record { frame = f; cause = cond (p f) c 0 })
 
--- Whether a frame of the track is preceded by a taken frame with no untaken flagged frame between, where the frames
--- before it stand nearest first. Other tracks' frames neither carry the walk nor stop it.
-unfoldable pub followsTaken : ℕ → List Marked → Bool
-followsTaken track [] = false
-followsTaken track (m ∷ ms) =
-    let further = followsTaken track ms in
-    cond (eqb (m .frame .track) track) (isTaken m || (not (m .frame .flagged) && further)) further
+-- a frame of the track and of the group
+abbrev pub isOf : ℕ → ℕ → Frame → Bool
+isOf track group f = eqb (f .track) track && eqb (f .group) group
 
--- Step 8: walk the frames in store order. A frame not taken, not flagged, and preceded by a taken frame with no
--- untaken flagged frame between is taken too, cause 5. `walked` holds the frames before it, nearest first.
+-- Whether a frame of the track and group is preceded by a taken frame of both with no untaken flagged frame of both between, where the
+-- frames before it stand nearest first. Other tracks' and other groups' frames neither carry the walk nor stop it.
+unfoldable pub followsTaken : ℕ → ℕ → List Marked → Bool
+followsTaken track group [] = false
+followsTaken track group (m ∷ ms) =
+    let further = followsTaken track group ms in
+    cond (isOf track group (m .frame)) (isTaken m || (not (m .frame .flagged) && further)) further
+
+-- Step 8, as document 02, No. 4 mends it: walk the frames in store order. A frame not taken, not flagged, and preceded by a taken frame of
+-- its own group with no untaken flagged frame of that group between is taken too, cause 5. `walked` holds the frames before it, nearest
+-- first.
 abbrev pub walkOne : List Marked → Marked → Marked
 walkOne walked m =
-    cond (not (isTaken m) && (not (m .frame .flagged) && followsTaken (m .frame .track) walked))
+    cond (not (isTaken m) && (not (m .frame .flagged) && followsTaken (m .frame .track) (m .frame .group) walked))
     (record { frame = m .frame; cause = 5 })
     m
 

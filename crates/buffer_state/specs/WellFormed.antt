@@ -17,7 +17,7 @@ use Rattle.buffer_state.specs.declared.Settings.{Settings}
 use Rattle.buffer_state.specs.declared.WindowEnd.{WindowEnd}
 use Rattle.buffer_state.specs.declared.WindowEnd.the-variants.{Unbounded, At}
 use Rattle.buffer_state.specs.Buffer.{Buffer, endOf}
-use Rattle.buffer_state.specs.Limits.{resultTime, goodDuration, places, mostTracks, lastNumber, knownKind}
+use Rattle.buffer_state.specs.Limits.{resultTime, goodDuration, places, mostTracks, lastNumber, lastGroup, knownKind}
 use Rattle.buffer_state.specs.Store.{before}
 
 -- ---- tests over lists
@@ -48,14 +48,14 @@ goodTrack t =
 
 -- ---- frames
 
--- On one of n tracks; numbered from 1 up to the last number given; presentation time at least 0; all times and the
--- duration inside the limits.
-unfoldable pub goodFrame : ℕ → ℕ → Frame → Bool
-goodFrame tracks last f =
+-- On one of n tracks; numbered from 1 up to the last number given; of a group up to the current one (document 02, No. 4); presentation
+-- time at least 0; all times and the duration inside the limits.
+unfoldable pub goodFrame : ℕ → ℕ → ℕ → Frame → Bool
+goodFrame tracks last group f =
     leb 1 (f .track) && (leb (f .track) tracks
-    && (leb 1 (f .number) && (leb (f .number) last
+    && (leb 1 (f .number) && (leb (f .number) last && (leb (f .group) group
     && (leZ (pos 0) (f .pts) && (resultTime (f .pts) && (resultTime (f .dts)
-    && (resultTime (endOf f) && goodDuration (f .duration))))))))
+    && (resultTime (endOf f) && goodDuration (f .duration)))))))))
 
 -- no two frames have one number
 unfoldable pub distinctNumbers : List Frame → Bool
@@ -67,9 +67,9 @@ sorted = pairwise before
 
 -- ---- group and settings
 
--- Group start (if set) and group end inside the limits.
+-- Group start (if set) and group end inside the limits, and a group number.
 unfoldable pub goodGroup : Group → Bool
-goodGroup g = resultTime (g .end) && cond (g .begun) (resultTime (g .start)) (zeroInt (g .start))
+goodGroup g = resultTime (g .end) && (cond (g .begun) (resultTime (g .start)) (zeroInt (g .start)) && leb (g .number) lastGroup)
 
 -- a kept double converts to its microseconds
 abbrev pub converts : Float → ℤ → Bool
@@ -102,11 +102,12 @@ unfoldable pub goodTracks : List Track → Bool
 goodTracks ts = goodCount (length ts) && allOf goodTrack ts
 
 -- At most 1,024 frames, each good, in order, no number twice, none above the last given.
-unfoldable pub goodFrames : ℕ → ℕ → List Frame → Bool
-goodFrames tracks last fs = leb (length fs) places && (allOf (goodFrame tracks last) fs && (sorted fs && distinctNumbers fs))
+unfoldable pub goodFrames : ℕ → ℕ → ℕ → List Frame → Bool
+goodFrames tracks last group fs =
+    leb (length fs) places && (allOf (goodFrame tracks last group) fs && (sorted fs && distinctNumbers fs))
 
 unfoldable pub goodBuffer : Buffer → Bool
 goodBuffer b =
     goodTracks (b .tracks)
-    && (goodFrames (length (b .tracks)) (b .last) (b .frames)
+    && (goodFrames (length (b .tracks)) (b .last) (b .group .number) (b .frames)
     && (leb (b .last) lastNumber && (goodGroup (b .group) && goodSettings (b .settings))))

@@ -20,6 +20,7 @@ pub struct Frame {
     pub flagged: bool,
     pub duration: u32,
     pub number: u32, // frame numbers are given from 1 in the order of the appends
+    pub group: u32, // the number of the group in which it was stored
     pub pts: i64,
     pub dts: i64,
 }
@@ -40,11 +41,12 @@ pub enum Mode {
     Sequence,
 }
 
-// The group start timestamp (kept as zero where it is unset) and the group end timestamp.
+// The coded frame group: the group start timestamp (kept as zero where it is unset), the group end timestamp, and the group number.
 pub struct Group {
     pub begun: bool, // the group start is set
     pub start: i64,
     pub end: i64,
+    pub number: u32, // from 0; it rises whenever the three values are unset on all tracks
 }
 
 // A setting: the double as it was given, bit for bit, beside its microseconds.
@@ -69,11 +71,14 @@ pub struct Settings {
 // The places of the store, over all tracks; and the lines that a lent fate list needs, as each stored frame may go.
 pub const PLACES: usize = 1024;
 
-// The stored frames, which the caller lends: a row of times (presentation, decode) and a row of tags (track, flag, duration, number) for
-// each place.
+// The last group number.
+pub const LAST_GROUP: u32 = 4294967295;
+
+// The stored frames, which the caller lends: a row of times (presentation, decode) and a row of tags (track, flag, duration, number,
+// group) for each place.
 pub type Times = [[i64; 2]; PLACES];
 
-pub type Tags = [[u32; 4]; PLACES];
+pub type Tags = [[u32; 5]; PLACES];
 
 // All of a state but its frames.
 pub struct Head {

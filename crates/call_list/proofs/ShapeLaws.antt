@@ -18,7 +18,7 @@ use Rattle.buffer_state.specs.Ranges.{Range, rangesOf, commonRangesOf, trackRan
 use Rattle.buffer_state.specs.Refusals.{Result, refused, done}
 use Rattle.buffer_state.specs.Remove.{remove}
 use Rattle.buffer_state.specs.Run.{Call, readCall, batchCall, walkedCall, Answer, byOutcome, bySetting, byRanges, byBatch, byWalked, replyTo, linesIn}
-use Rattle.buffer_state.specs.Settings.{offsetSet, windowStartSet, windowEndSet}
+use Rattle.buffer_state.specs.Settings.{abort, offsetSet, windowStartSet, windowEndSet}
 use Rattle.buffer_state.specs.Walked.{walked}
 use Rattle.call_rows.specs.Encoded.{offeredOf, linesCall, settingCall, rangesCallOf, ofLines, ofRanges, rowCall}
 use Rattle.call_rows.specs.Replies.{sizeOf, doublesIn, rangesIn}
@@ -96,7 +96,7 @@ module _ (row : List ℕ) (stamps : List ℤ) (seconds : List Float) (frames : L
   unfolding replyTo
   settings-shape h k =
       let x = getD seconds 0 nan in
-      by-test Shaped (eqb kind 2) (λ _. setting-shape kind places b h k (done b))
+      by-test Shaped (eqb kind 2) (λ _. setting-shape kind places b h k (abort b))
       (λ _. by-test Shaped (eqb kind 3) (λ _. setting-shape kind places b h k (done b))
       (λ _. by-test Shaped (eqb kind 4) (λ _. setting-shape kind places b h k (offsetSet x b))
       (λ _. by-test Shaped (eqb kind 5) (λ _. setting-shape kind places b h k (windowStartSet x b))

@@ -29,11 +29,11 @@ use Rattle.buffer_state.specs.Ranges.{Range, trackRanges, commonRanges}
 use Rattle.buffer_state.specs.Refusals.{Result, refused, done, refusalNumber}
 use Rattle.buffer_state.specs.Remove.{remove}
 use Rattle.buffer_state.specs.Run.{Call, appendCall, removeCall, abortCall, modeCall, offsetCall, windowStartCall, windowEndCall, readCall, rangesCall, commonCall, batchCall, walkedCall, settings, ranges, byOutcome, bySetting, byRanges, byBatch, byWalked, replyTo}
-use Rattle.buffer_state.specs.Settings.{aborted, modeSet, offsetSet, windowStartSet, windowEndSet, Reading, reading}
+use Rattle.buffer_state.specs.Settings.{abort, modeSet, offsetSet, windowStartSet, windowEndSet, Reading, reading}
 use Rattle.buffer_state.specs.Walked.{walked}
 use Rattle.buffer_laws.proofs.AnswerLaws.{Leaves, LeavesBatch}
 use Rattle.buffer_laws.proofs.LentLaws.{lent-same, ill-formed-refused, on-well-formed}
-use Rattle.buffer_laws.proofs.SettingLaws.{IfDone, Set, aborted-good, aborted-untouched, mode-good, mode-untouched, offset-set, window-start-set, window-end-set}
+use Rattle.buffer_laws.proofs.SettingLaws.{IfDone, Set, abort-set, mode-good, mode-untouched, offset-set, window-start-set, window-end-set}
 use Rattle.ranges.specs.Bars.{Reported}
 use Rattle.call_rows.specs.declared.Step.{Step}
 use Rattle.call_rows.specs.Encoded.{modeOf, offeredOf, linesCall, settingCall, rangesCallOf, callOf}
@@ -235,8 +235,7 @@ module _ (s : Lent) (flag : ℕ) (x : Float) (r : Changed) where
 
   pub abort-quiet : (kind : ℕ) → kind ≡ 2 → r ≡ abortAnswer (s .head) (s .times) (s .tags) → Settles kind
   unfolding abortAnswer replyTo
-  abort-quiet kind k h =
-      rw (k, h) (changed-reply s abortCall (λ b. done (aborted b)) (λ b. refl) (λ b. record { good = aborted-good b; untouched = aborted-untouched b }))
+  abort-quiet kind k h = rw (k, h) (changed-reply s abortCall abort (λ b. refl) abort-set)
 
   pub mode-quiet : (kind : ℕ) (m : Mode) → kind ≡ 3 → m ≡ modeOf flag → r ≡ modeAnswer m (s .head) (s .times) (s .tags) → Settles kind
   unfolding modeAnswer replyTo

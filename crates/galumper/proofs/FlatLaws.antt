@@ -190,7 +190,7 @@ head-back h k =
       ntracks = ntracks i;
       nframes = h .nframes;
       mode = mode i;
-      group = record { begun = begun i; start = h .group .start; end = h .group .end };
+      group = record { begun = begun i; start = h .group .start; end = h .group .end; number = h .group .number };
       last = h .last;
       settings = settings i;
     }
@@ -213,7 +213,7 @@ flat-back c w h =
       nframes = c .nframes;
       mode = mode i;
       last = c .last;
-      group = record { begun = begun i; start = c .group .start; end = c .group .end };
+      group = record { begun = begun i; number = c .group .number; start = c .group .start; end = c .group .end };
       settings = settings i;
     }
 

@@ -32,11 +32,11 @@ use Rattle.galumper.specs.declared.FlatTrack.{FlatTrack}
 
 -- its number, which the header has too
 abbrev pub abi : ℕ
-abi = 5
+abi = 6
 
--- the bytes of a head, and of 1,024 rows of two numbers of 8 bytes and four of 4
+-- the bytes of a head, and of 1,024 rows of two numbers of 8 bytes and five of 4
 abbrev pub bufferSize : ℕ
-bufferSize = 200 + places * (2 * 8 + 4 * 4)
+bufferSize = 200 + places * (2 * 8 + 5 * 4)
 
 -- ---- numbers that stand for something
 
@@ -90,10 +90,10 @@ trackOut t =
     record { kind = t .kind; known = flagOut (t .known); need = flagOut (t .need); duration = t .duration; dts = t .dts; end = t .end }
 
 abbrev pub groupIn : FlatGroup → Group
-groupIn g = record { begun = flagIn (g .begun); start = g .start; end = g .end }
+groupIn g = record { begun = flagIn (g .begun); start = g .start; end = g .end; number = g .number }
 
 abbrev pub groupOut : Group → FlatGroup
-groupOut g = record { begun = flagOut (g .begun); start = g .start; end = g .end }
+groupOut g = record { begun = flagOut (g .begun); number = g .number; start = g .start; end = g .end }
 
 abbrev pub settingIn : FlatSetting → Setting
 settingIn x = record { seconds = doubleIn (x .bits); micros = x .micros }

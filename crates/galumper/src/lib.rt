@@ -68,7 +68,8 @@ pub struct FlatTrack {
 
 #[repr(C)]
 pub struct FlatGroup {
-    pub begun: u64,
+    pub begun: u32,
+    pub number: u32,
     pub start: i64,
     pub end: i64,
 }
@@ -254,15 +255,17 @@ fn group_in(g: FlatGroup) -> Group
         begun: g.begun == 1,
         start: g.start,
         end: g.end,
+        number: g.number,
     }
 }
 
 fn group_out(g: Group) -> FlatGroup
     ensures { λ r. ⌜ r ≡ groupOut g ⌝ }
 {
-    let begun = flag_out(g.begun) as u64;
+    let begun = flag_out(g.begun) as u32;
     FlatGroup {
         begun,
+        number: g.number,
         start: g.start,
         end: g.end,
     }
@@ -588,7 +591,7 @@ fn reading_out(answer: Read) -> Reading
 pub extern "C" fn galumper_abi() -> u32
     ensures { λ r. ⌜ r ≡ abi ⌝ }
 {
-    5
+    6
 }
 
 // The bytes of a buffer: a head and its arrays.
@@ -596,7 +599,7 @@ pub extern "C" fn galumper_abi() -> u32
 pub extern "C" fn galumper_size() -> usize
     ensures { λ r. ⌜ r ≡ bufferSize ⌝ }
 {
-    32968
+    37064
 }
 
 // ---- the calls

@@ -15,7 +15,7 @@ use Rattle.buffer_state.specs.Buffer.{Buffer}
 use Rattle.buffer_state.specs.Lent.{onLent}
 use Rattle.buffer_state.specs.Refusals.{Result, done}
 use Rattle.buffer_state.specs.Remove.{remove}
-use Rattle.buffer_state.specs.Settings.{aborted, modeSet, offsetSet, windowStartSet, windowEndSet}
+use Rattle.buffer_state.specs.Settings.{abort, modeSet, offsetSet, windowStartSet, windowEndSet}
 use Rattle.buffer_laws.proofs.KeptLaws.{Keeps, SettingKeeps, append-keeps, batch-keeps, remove-keeps, abort-keeps, mode-keeps, offset-keeps, window-start-keeps, window-end-keeps}
 use Rattle.galumper.specs.declared.Answered.{Answered}
 use Rattle.galumper.specs.declared.FlatBatched.{FlatBatched}
@@ -65,7 +65,7 @@ module _ (c : FlatHead) (ts : List (List ℤ)) (gs : List (List ℕ)) (s : Sound
 
   pub aborting : r ≡ handedBack c (abortAnswer (headIn c) ts gs) → Changes (abortAnswer (headIn c) ts gs) r
   unfolding abortAnswer
-  aborting = setting (λ (b : Buffer). done (aborted b)) (abort-keeps Number made-numbers)
+  aborting = setting abort (abort-keeps Number made-numbers)
 
   pub mode-setting : (m : Mode) → r ≡ handedBack c (modeAnswer m (headIn c) ts gs) → Changes (modeAnswer m (headIn c) ts gs) r
   unfolding modeAnswer

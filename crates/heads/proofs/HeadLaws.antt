@@ -13,7 +13,7 @@ use Rattle.buffer_state.specs.declared.Group.{Group}
 use Rattle.buffer_state.specs.declared.Offered.{Offered}
 use Rattle.buffer_state.specs.declared.Settings.{Settings}
 use Rattle.buffer_state.specs.declared.Track.{Track}
-use Rattle.buffer_state.specs.Append.{withOffset, stepOne, regrouped}
+use Rattle.buffer_state.specs.Append.{withOffset, stepOne, moved}
 use Rattle.buffer_state.specs.Buffer.{Buffer, zeroTrack, trackOf, withTrack, withNeed, restarted, isSequence, startAtEnd, withEnd}
 use Rattle.buffer_state.specs.Layout.{padded}
 use Rattle.buffer_state.specs.Limits.{offeredTime}
@@ -84,27 +84,27 @@ module _ (b : Buffer) (h : Head) (e : h ≡ headOf b) where
   pub one-begins : (f : Offered) → (isSequence (h .mode) && h .group .begun) ≡ true → (ts : List Track) (s : Settings)
       → ts ≡ map (withNeed true) (take (h .ntracks) (h .tracks)) ++ drop (h .ntracks) (h .tracks)
       → s ≡ withOffset (h .settings) (h .group .start -ℤ f .pts)
-      → _≡_ {A = Head} (record { tracks = ts; ntracks = h .ntracks; nframes = h .nframes; mode = h .mode; group = record { begun = false; start = pos 0; end = h .group .start }; last = h .last; settings = s })
+      → _≡_ {A = Head} (record { tracks = ts; ntracks = h .ntracks; nframes = h .nframes; mode = h .mode; group = record { begun = false; start = pos 0; end = h .group .start; number = h .group .number }; last = h .last; settings = s })
       (headOf (stepOne b f))
   unfolding stepOne
   one-begins f t ts s d q =
       let on : (isSequence (b .mode) && b .group .begun) ≡ true = ap (λ (k : Head). isSequence (k .mode) && k .group .begun) (sym e) ∙ t in
       let s′ = q ∙ ap (λ (k : Head). withOffset (k .settings) (k .group .start -ℤ f .pts)) e in
-      let m = mapped-head (withNeed true) ts (record { begun = false; start = pos 0; end = h .group .start }) s d in
+      let m = mapped-head (withNeed true) ts (record { begun = false; start = pos 0; end = h .group .start; number = h .group .number }) s d in
       rw on (m ∙ (λ j. headOf (record {
         tracks = map (withNeed true) (b .tracks);
         frames = b .frames;
         mode = b .mode;
-        group = record { begun = false; start = pos 0; end = e j .group .start };
+        group = record { begun = false; start = pos 0; end = e j .group .start; number = e j .group .number };
         last = b .last;
         settings = s′ j;
       })))
 
-  pub head-regrouped : (z : ℤ) (ts : List Track) (g : Group) → ts ≡ map restarted (take (h .ntracks) (h .tracks)) ++ drop (h .ntracks) (h .tracks)
+  pub head-moved : (z : ℤ) (ts : List Track) (g : Group) → ts ≡ map restarted (take (h .ntracks) (h .tracks)) ++ drop (h .ntracks) (h .tracks)
       → g ≡ cond (isSequence (h .mode)) (startAtEnd (h .group)) (withEnd (h .group) z)
-      → _≡_ {A = Head} (record { tracks = ts; ntracks = h .ntracks; nframes = h .nframes; mode = h .mode; group = g; last = h .last; settings = h .settings }) (headOf (regrouped b z))
-  unfolding regrouped
-  head-regrouped z ts g d q =
+      → _≡_ {A = Head} (record { tracks = ts; ntracks = h .ntracks; nframes = h .nframes; mode = h .mode; group = g; last = h .last; settings = h .settings }) (headOf (moved b z))
+  unfolding moved
+  head-moved z ts g d q =
       let g′ = q ∙ ap (λ (k : Head). cond (isSequence (k .mode)) (startAtEnd (k .group)) (withEnd (k .group) z)) e in
       mapped-head restarted ts g (h .settings) d
       ∙ (λ j. headOf (record { tracks = map restarted (b .tracks); frames = b .frames; mode = b .mode; group = g′ j; last = b .last; settings = e j .settings }))

@@ -1,15 +1,20 @@
 -- What an append reads of a head and changes there: steps 1 to 6, and step 9.
 use mathlib.Core.Path.{_≡_}
-use mathlib.Core.Bool.{true, false, cond}
+use mathlib.Core.Bool.{true, false, cond, not}
 use Prim.Native.Nat.{ℕ, _+_, _≤_}
 use lib.Dec.{eqb}
+use lib.IntN.{ℤ}
 use Rattle.buffer_state.specs.declared.Group.{Group}
 use Rattle.buffer_state.specs.declared.Head.{Head}
 use Rattle.buffer_state.specs.declared.Offered.{Offered}
-use Rattle.buffer_state.specs.Append.{Pass, passOf, fits, lastPass, leavesLimits, beforeWindow, pastWindow, lacksRandomAccess}
-use Rattle.buffer_state.specs.Buffer.{Buffer, trackOf, withTrack, withNeed}
+use Rattle.buffer_state.specs.declared.Refusal.the-variants.{ResultLimits, LastNumber}
+use Rattle.buffer_state.specs.declared.Stop.the-variants.{Nothing, By}
+use Rattle.buffer_state.specs.Append.{Pass, passOf, fits, regrouped, lastPass, leavesLimits, lacksGroup, beforeWindow, pastWindow, lacksRandomAccess}
+use Rattle.buffer_state.specs.Buffer.{Buffer, trackOf, withTrack, withNeed, inLastGroup}
 use Rattle.buffer_state.specs.Lent.{headOf}
+use Rattle.buffer_state.specs.Refusals.{Result, refused, done, refuseIf}
 use Rattle.buffer_state.specs.WellFormed.{goodBuffer}
+use Rattle.heads.specs.declared.Decided.{Decided}
 use Rattle.heads.specs.declared.Passed.{Passed}
 
 -- a head with the next number given
@@ -50,14 +55,25 @@ HasTrack h n = (1 ≤ n) × (n ≤ h .ntracks) × (h .ntracks ≤ 4)
 abbrev pub passedAs : Pass → Passed
 passedAs p = record { head = headOf (p .buffer); frame = p .frame; fits = fits p }
 
--- the pass that decides: the first where refusal 7 takes it, else the last
-unfoldable pub deciding : Buffer → Offered → Pass
-deciding b f = cond (fits (passOf b f)) (lastPass b f) (passOf b f)
+-- the pass that step 4 goes on from, after refusals 7 and 9: from the first pass on, and from a break at p on
+unfoldable pub decision : Buffer → Offered → Result Pass
+decision b f = refuseIf (leavesLimits b f) ResultLimits (refuseIf (lacksGroup b f) LastNumber (done (lastPass b f)))
 
--- the pass that step 4 goes on from is of this buffer as it is, and refusal 7 does not take it
+unfoldable pub secondDecision : Buffer → Offered → ℤ → Result Pass
+secondDecision b f p =
+    let again = passOf (regrouped b p) f in
+    refuseIf (not (fits again)) ResultLimits (refuseIf (inLastGroup b) LastNumber (done again))
+
+-- what the code tells of it: the refusal, or the pass without the frames
+abbrev pub Decides : Decided → Result Pass → Type 0
+Decides d (refused why) = d .stop ≡ By why
+Decides d (done p) = d ≡ record { head = headOf (p .buffer); frame = p .frame; stop = Nothing }
+
+-- the pass that step 4 goes on from is of this buffer as it is, and neither refusal 7 nor 9 takes it
 pub record Calm (b : Buffer) (f g : Offered) : Type 0 where
   pub last : lastPass b f ≡ record { buffer = b; frame = g }
   pub inside : leavesLimits b f ≡ false
+  pub group : lacksGroup b f ≡ false
 
 -- the cause by which steps 4 to 6 drop the frame, 0 where it is stored
 unfoldable pub dropCause : Pass → ℕ

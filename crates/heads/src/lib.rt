@@ -8,27 +8,30 @@ ghost use lib.IntN.{pos, _+ℤ_, _-ℤ_, natAbs};
 ghost use lib.ListN.{length};
 ghost use lib.Signed.{ltZ, mag};
 ghost use Rattle.buffer_state.specs.declared.Frame.{Frame};
-ghost use Rattle.buffer_state.specs.Append.{withOffset, stepOne, stepTwo, endOffered, fits, passOf, regrouped, breaks, above, dropped, raised, storedAs, followed, stepNine, offerable};
-ghost use Rattle.buffer_state.specs.Buffer.{Buffer, isSequence, trackOf, withTrack, withNeed, withEnd};
+ghost use Rattle.buffer_state.specs.declared.Stop.the-variants.{Nothing, By};
+ghost use Rattle.buffer_state.specs.Append.{withOffset, stepOne, stepTwo, endOffered, fits, passOf, moved, breaks, above, dropped, raised, storedAs, followed, stepNine, offerable};
+ghost use Rattle.buffer_state.specs.Buffer.{Buffer, isSequence, trackOf, withTrack, withNeed, withEnd, inNextGroup};
 ghost use Rattle.buffer_state.specs.Lent.{headOf};
-ghost use Rattle.buffer_state.specs.Limits.{offeredTime, resultTime, lastNumber, places};
+ghost use Rattle.buffer_state.specs.Limits.{offeredTime, resultTime, lastNumber, lastGroup, places};
 ghost use Rattle.buffer_state.specs.WellFormed.{goodTrack};
-ghost use Rattle.heads.specs.Heads.{GoodHead, HasTrack, Calm, passedAs, deciding, dropCause, dropBuffer, nextHead, grownHead};
+ghost use Rattle.heads.specs.Heads.{GoodHead, HasTrack, Calm, passedAs, secondDecision, decision, Decides, dropCause, dropBuffer, nextHead, grownHead};
 use buffer_state::Frame;
 use buffer_state::Group;
 use buffer_state::Head;
-use buffer_state::Mode;
+use buffer_state::LAST_GROUP;
 use buffer_state::Offered;
+use buffer_state::Refusal;
 use buffer_state::Setting;
 use buffer_state::Settings;
+use buffer_state::Stop;
 use buffer_state::Track;
 use buffer_state::WindowEnd;
 
 // A pass: the head after step 1, the frame after step 2, and whether they are inside the result limits.
-pub struct Passed {
-    pub head: Head,
-    pub frame: Offered,
-    pub fits: bool,
+struct Passed {
+    head: Head,
+    frame: Offered,
+    fits: bool,
 }
 
 // ---- one track
@@ -123,6 +126,7 @@ fn step_one(h: Head, f: Offered) -> Head
         begun: false,
         start: 0,
         end: g.start,
+        number: g.number,
     };
     Head {
         tracks: tracks,
@@ -163,9 +167,9 @@ fn step_two(h: Head, f: Offered) -> Offered
 
 // ---- refusal 7
 
-// The frame as it is stored, with its number.
-pub fn stored_as(n: u32, f: Offered) -> Frame
-    ensures { λ r. ⌜ r ≡ storedAs n f ⌝ }
+// The frame as it is stored, with its number and its group.
+pub fn stored_as(n: u32, group: u32, f: Offered) -> Frame
+    ensures { λ r. ⌜ r ≡ storedAs n group f ⌝ }
 {
     let pts = f.pts;
     let dts = f.dts;
@@ -174,17 +178,18 @@ pub fn stored_as(n: u32, f: Offered) -> Frame
         flagged: f.flagged,
         duration: f.duration,
         number: n,
+        group: group,
         pts: pts,
         dts: dts,
     }
 }
 
-// The end of the frame, which its number does not bear on.
+// The end of the frame, which its number and its group do not bear on.
 pub fn end_offered(f: Offered) -> i64
     requires { ⌜ resultTime (f .pts) ≡ true ⌝ }
     ensures { λ r. ⌜ r ≡ endOffered f ⌝ }
 {
-    limits::end_of(stored_as(0, f))
+    limits::end_of(stored_as(0, 0, f))
 }
 
 // Offset, P, D and frame end inside the result limits. P is asked first, so that the end can be added up.
@@ -274,10 +279,38 @@ pub fn steady_frame(h: Head, f: Offered) -> Steady
     }
 }
 
-// After a break: the group moved, the three unset and need-random-access on for all tracks.
-fn regrouped(h: Head, p: i64) -> Head
+// What steps 1 to 3 come to: the head and the frame that step 4 goes on from, unless refusal 7 or 9 stops the frame.
+pub struct Decided {
+    pub head: Head,
+    pub frame: Offered,
+    pub stop: Stop,
+}
+
+fn stopped(h: Head, f: Offered, why: Refusal) -> Decided
+    ensures { λ r. ⌜ r .stop ≡ By why ⌝ }
+{
+    Decided {
+        head: h,
+        frame: f,
+        stop: Stop::By(why),
+    }
+}
+
+fn goes_on(h: Head, f: Offered) -> Decided
+    ensures { λ r. ⌜ r ≡ record { head = h; frame = f; stop = Nothing } ⌝ }
+{
+    Decided {
+        head: h,
+        frame: f,
+        stop: Stop::Nothing,
+    }
+}
+
+// After a break: the group moved, the three unset and need-random-access on for all tracks. The next group begins with it, but its number
+// is given once no refusal is left.
+fn moved(h: Head, p: i64) -> Head
     requires { ⌜ h .ntracks ≤ 4 ⌝ }
-    ensures { λ r. ⌜ ((b : Buffer) → h ≡ headOf b → r ≡ headOf (regrouped b p)) ⌝ }
+    ensures { λ r. ⌜ ((b : Buffer) → h ≡ headOf b → r ≡ headOf (moved b p)) ⌝ }
 {
     let old = h.tracks;
     let n = h.ntracks;
@@ -297,23 +330,48 @@ fn regrouped(h: Head, p: i64) -> Head
     }
 }
 
-// Both passes: a second begins again at 1 with the frame as offered.
-pub fn last_pass(h: Head, f: Offered) -> Passed
+fn in_next_group(h: Head) -> Head
+    requires { ⌜ h .group .number < lastGroup ⌝ }
+    ensures { λ r. ⌜ ((b : Buffer) → h ≡ headOf b → r ≡ headOf (inNextGroup b)) ⌝ }
+{
+    let g = h.group;
+    let next = tracks::next_group(g);
+    Head { group: next, ..h }
+}
+
+// After a break at p, the frame as offered begins again at 1, in the next group, if there is one.
+fn second_pass(h: Head, f: Offered, p: i64) -> Decided
+    requires { ⌜ GoodHead h × (offerable f ≡ true) × (resultTime p ≡ true) ⌝ }
+    ensures { λ r. ⌜ ((b : Buffer) → h ≡ headOf b → Decides r (secondDecision b f p)) ⌝ }
+{
+    let q = pass(moved(h, p), f);
+    if !q.fits {
+        return stopped(h, f, Refusal::ResultLimits);
+    }
+    let k = q.head;
+    let g = k.group;
+    if g.number == LAST_GROUP {
+        return stopped(h, f, Refusal::LastNumber);
+    }
+    let again = q.frame;
+    goes_on(in_next_group(k), again)
+}
+
+// Both passes, refusal 7 of either, and refusal 9 of a second that begins a group after the last one.
+pub fn last_pass(h: Head, f: Offered) -> Decided
     requires { ⌜ GoodHead h × (offerable f ≡ true) × HasTrack h (f .track) ⌝ }
-    ensures { λ r. ⌜ ((b : Buffer) → h ≡ headOf b → r ≡ passedAs (deciding b f)) ⌝ }
+    ensures { λ r. ⌜ ((b : Buffer) → h ≡ headOf b → Decides r (decision b f)) ⌝ }
 {
     let p = pass(h, f);
     if !p.fits {
-        return p;
+        return stopped(h, f, Refusal::ResultLimits);
     }
     let g = p.head;
     let k = p.frame;
     if !breaks(g, k) {
-        return p;
+        return goes_on(g, k);
     }
-    let again = f;
-    let redone = pass(regrouped(g, k.pts), again);
-    redone
+    second_pass(g, f, k.pts)
 }
 
 // ---- steps 4 to 6
@@ -419,6 +477,7 @@ fn group_raised(g: Group, e: i64) -> Group
         begun: g.begun,
         start: start,
         end: end,
+        number: g.number,
     }
 }
 

@@ -1,5 +1,5 @@
 // A store of frames lent as two arrays of numbers: a row of times (presentation, decode) and a row of tags (track, flag, duration,
-// number) for each place. A place is read as a Frame by value and written from one.
+// number, group) for each place. A place is read as a Frame by value and written from one.
 ghost use mathlib.Core.Path.{_≡_};
 ghost use mathlib.Core.Bool.{true};
 ghost use mathlib.Core.List.{_++_};
@@ -26,7 +26,7 @@ fn flag_out(b: bool) -> u32
 }
 
 // The frame that two rows hold.
-pub fn frame_of(time: [i64; 2], tag: [u32; 4]) -> Frame
+pub fn frame_of(time: [i64; 2], tag: [u32; 5]) -> Frame
     ensures { λ r. ⌜ r ≡ frameOf time tag ⌝ }
 {
     Frame {
@@ -34,13 +34,14 @@ pub fn frame_of(time: [i64; 2], tag: [u32; 4]) -> Frame
         flagged: tag[1] == 1,
         duration: tag[2],
         number: tag[3],
+        group: tag[4],
         pts: time[0],
         dts: time[1],
     }
 }
 
 // The frame at a place.
-pub fn frame_at(times: &[[i64; 2]], tags: &[[u32; 4]], i: usize) -> Frame
+pub fn frame_at(times: &[[i64; 2]], tags: &[[u32; 5]], i: usize) -> Frame
     requires { ⌜ (i < length (now times)) × (i < length (now tags)) ⌝ }
     ensures { λ r. ⌜ r ≡ getD (framesOf (now (times .entry)) (now (tags .entry))) i zeroFrame ⌝ }
 {
@@ -50,13 +51,13 @@ pub fn frame_at(times: &[[i64; 2]], tags: &[[u32; 4]], i: usize) -> Frame
 }
 
 // A frame put at a place.
-pub fn put_at(times: &mut [[i64; 2]], tags: &mut [[u32; 4]], i: usize, f: Frame)
+pub fn put_at(times: &mut [[i64; 2]], tags: &mut [[u32; 5]], i: usize, f: Frame)
     requires { ⌜ (i < length (now times)) × (i < length (now tags)) ⌝ }
     ensures times { λ r. ⌜ now (times .exit) ≡ set (now (times .entry)) i (timeOf f) ⌝ }
     ensures tags { λ r. ⌜ now (tags .exit) ≡ set (now (tags .entry)) i (tagOf f) ⌝ }
 {
     let time = [f.pts, f.dts];
-    let tag = [f.track, flag_out(f.flagged), f.duration, f.number];
+    let tag = [f.track, flag_out(f.flagged), f.duration, f.number, f.group];
     times[i] = time;
     tags[i] = tag;
 }
@@ -76,11 +77,11 @@ pub fn clear_times(times: &mut [[i64; 2]], k: usize, n: usize)
     }
 }
 
-pub fn clear_tags(tags: &mut [[u32; 4]], k: usize, n: usize)
+pub fn clear_tags(tags: &mut [[u32; 5]], k: usize, n: usize)
     requires { ⌜ (k ≤ n) × (n ≤ length (now tags)) ⌝ }
     ensures { λ r. ⌜ now (tags .exit) ≡ cleared (tagOf zeroFrame) k n (now (tags .entry)) ⌝ }
 {
-    let z = [0u32; 4];
+    let z = [0u32; 5];
     let mut i = k;
     while i < n {
         tags[i] = z;
@@ -129,7 +130,7 @@ fn open_times(times: &mut [[i64; 2]], p: usize, n: usize)
 }
 
 // Two in a turn, which the compiler does for the times by itself.
-fn open_tags(tags: &mut [[u32; 4]], p: usize, n: usize)
+fn open_tags(tags: &mut [[u32; 5]], p: usize, n: usize)
     requires { ⌜ (p ≤ n) × (n < length (now tags)) ⌝ }
     ensures { λ r. ⌜ now (tags .exit) ≡ opened p n (now (tags .entry)) ⌝ }
 {
@@ -151,7 +152,7 @@ fn open_tags(tags: &mut [[u32; 4]], p: usize, n: usize)
 }
 
 // Where f goes: past the last frame that it does not come before. Often that is the last of all; else the place is found by halving.
-fn place_of(times: &[[i64; 2]], tags: &[[u32; 4]], n: usize, f: Frame) -> usize
+fn place_of(times: &[[i64; 2]], tags: &[[u32; 5]], n: usize, f: Frame) -> usize
     requires { ⌜ (n ≤ length (now times)) × (length (now times) ≡ length (now tags)) × (sorted (take n (framesOf (now times) (now tags))) ≡ true) ⌝ }
     ensures { λ r. ⌜ GoesAt f (take n (framesOf (now (times .entry)) (now (tags .entry)))) r ⌝ }
 {
@@ -175,7 +176,7 @@ fn place_of(times: &[[i64; 2]], tags: &[[u32; 4]], n: usize, f: Frame) -> usize
 }
 
 // A frame stored in order among the first n: those that it comes before move one place on.
-pub fn insert(times: &mut [[i64; 2]], tags: &mut [[u32; 4]], n: usize, f: Frame)
+pub fn insert(times: &mut [[i64; 2]], tags: &mut [[u32; 5]], n: usize, f: Frame)
     requires { ⌜ (n < places) × Lengths (now times) (now tags) × Holding (now times) (now tags) n × (sorted (take n (framesOf (now times) (now tags))) ≡ true) ⌝ }
     ensures times { λ r. ⌜ now (times .exit) ≡ timesOf (padded places zeroFrame (insertSorted f (take n (framesOf (now (times .entry)) (now (tags .entry)))))) ⌝ }
     ensures tags { λ r. ⌜ now (tags .exit) ≡ tagsOf (padded places zeroFrame (insertSorted f (take n (framesOf (now (times .entry)) (now (tags .entry)))))) ⌝ }

@@ -42,7 +42,8 @@ module _ (h : Head) (ts : List (List ℤ)) (gs : List (List ℕ)) (w : wellForme
         long = lent-plain h ts gs w .long;
         few = layout .nframes;
         each =
-            all-weaker (goodFrame n (h .last)) sound (λ (f : Frame) e. and-both (good-timely n (h .last) f e) (good-lasts n (h .last) f e))
+            all-weaker (goodFrame n (h .last) (h .group .number)) sound
+            (λ (f : Frame) e. and-both (good-timely n (h .last) (h .group .number) f e) (good-lasts n (h .last) (h .group .number) f e))
             (stored ts gs (h .nframes)) (good .frames .each);
         order = good .frames .order;
       }

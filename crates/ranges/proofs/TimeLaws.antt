@@ -40,13 +40,13 @@ mag-natAbs (negsuc n) = omega arith
 
 -- ---- a frame
 
-pub good-timely : (tracks last : ℕ) (f : Frame) → goodFrame tracks last f ≡ true → timely f ≡ true
+pub good-timely : (tracks last group : ℕ) (f : Frame) → goodFrame tracks last group f ≡ true → timely f ≡ true
 unfolding resultTime
-good-timely tracks last f e = let g = frame-facts tracks last f e in and-both (g .not-early) (and-right (leZ (negℤ (pos 4000000000000)) (f .pts)) _ (g .pts))
+good-timely tracks last group f e = let g = frame-facts tracks last group f e in and-both (g .not-early) (and-right (leZ (negℤ (pos 4000000000000)) (f .pts)) _ (g .pts))
 
-pub good-lasts : (tracks last : ℕ) (f : Frame) → goodFrame tracks last f ≡ true → lasts f ≡ true
+pub good-lasts : (tracks last group : ℕ) (f : Frame) → goodFrame tracks last group f ≡ true → lasts f ≡ true
 unfolding goodDuration
-good-lasts tracks last f e = and-left (leb 1 (f .duration)) _ (frame-facts tracks last f e .duration)
+good-lasts tracks last group f e = and-left (leb 1 (f .duration)) _ (frame-facts tracks last group f e .duration)
 
 module _ (f : Frame) (e : timely f ≡ true) where
   pub timely-natural : f .pts ≡ pos (natAbs (f .pts))

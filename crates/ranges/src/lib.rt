@@ -117,7 +117,7 @@ fn from_to(a: Span, b: Span) -> Span
 // ---- the track's frames in presentation order
 
 // The place of the first frame, from one on, that is of the track or of one above; found by halving.
-fn first_from(times: &[[i64; 2]], tags: &[[u32; 4]], from: usize, n: usize, track: u32) -> usize
+fn first_from(times: &[[i64; 2]], tags: &[[u32; 5]], from: usize, n: usize, track: u32) -> usize
     requires { ⌜ (Stores (now times) (now tags) n) × (from ≤ n) × (allOf (under track) (take from (stored (now times) (now tags) n)) ≡ true) ⌝ }
     ensures { λ r. ⌜ (Parts track (stored (now (times .entry)) (now (tags .entry)) n) r) × (from ≤ r) × (r ≤ n) ⌝ }
 {
@@ -162,7 +162,7 @@ fn place_of(key: u64) -> usize
 }
 
 // The keys of so many frames from a place on.
-fn keys_of(times: &[[i64; 2]], tags: &[[u32; 4]], first: usize, count: usize, keys: &mut [u64])
+fn keys_of(times: &[[i64; 2]], tags: &[[u32; 5]], first: usize, count: usize, keys: &mut [u64])
     requires { ⌜ (Lengths (now times) (now tags)) × (first + count ≤ places) × (length (now keys) ≡ places)
         × (allOf (soundAt (framesOf (now times) (now tags))) (upFrom count first) ≡ true) ⌝ }
     ensures { λ r. ⌜ take count (now (keys .exit)) ≡ keysOf (framesOf (now (times .entry)) (now (tags .entry))) count first ⌝ }
@@ -189,7 +189,7 @@ fn place_at(keys: &[u64], order: Order, i: usize) -> usize
 }
 
 // The stretch of the i-th frame in order.
-fn stretch_at(times: &[[i64; 2]], tags: &[[u32; 4]], keys: &[u64], order: Order, i: usize) -> Span
+fn stretch_at(times: &[[i64; 2]], tags: &[[u32; 5]], keys: &[u64], order: Order, i: usize) -> Span
     requires { ⌜ (Ordered (now times) (now tags) order (now keys)) × (i < order .count) ⌝ }
     ensures { λ r. ⌜ Next (stretchesIn (framesOf (now (times .entry)) (now (tags .entry))) order (now (keys .entry))) i (rangeOf r) ⌝ }
 {
@@ -213,7 +213,7 @@ struct Walk {
 // need no greater of two ends.
 fn walk_ordered(
     times: &[[i64; 2]],
-    tags: &[[u32; 4]],
+    tags: &[[u32; 5]],
     keys: &[u64],
     order: Order,
     room: usize,
@@ -283,7 +283,7 @@ fn walk_ordered(
 }
 
 // Whether no frame behind the one at a place in the order starts before the one in front of it.
-fn rise_from(times: &[[i64; 2]], tags: &[[u32; 4]], keys: &[u64], order: Order, at: usize) -> bool
+fn rise_from(times: &[[i64; 2]], tags: &[[u32; 5]], keys: &[u64], order: Order, at: usize) -> bool
     requires { ⌜ (Ordered (now times) (now tags) order (now keys)) × (at < order .count) ⌝ }
     ensures { λ r. ⌜ r ≡ startsRise (drop at (stretchesIn (framesOf (now (times .entry)) (now (tags .entry))) order (now (keys .entry)))) ⌝ }
 {
@@ -304,7 +304,7 @@ fn rise_from(times: &[[i64; 2]], tags: &[[u32; 4]], keys: &[u64], order: Order, 
 // be in order too.
 fn walk_stored(
     times: &[[i64; 2]],
-    tags: &[[u32; 4]],
+    tags: &[[u32; 5]],
     first: usize,
     count: usize,
     room: usize,
@@ -334,7 +334,7 @@ fn walk_stored(
 // The walk over the same frames, put in presentation order.
 fn walk_sorted(
     times: &[[i64; 2]],
-    tags: &[[u32; 4]],
+    tags: &[[u32; 5]],
     first: usize,
     count: usize,
     room: usize,
@@ -358,7 +358,7 @@ fn walk_sorted(
 // The walk over a track's frames. Only frames that are not in order as they stand are sorted.
 fn track_walk(
     times: &[[i64; 2]],
-    tags: &[[u32; 4]],
+    tags: &[[u32; 5]],
     n: usize,
     track: u32,
     room: usize,
@@ -465,7 +465,7 @@ fn both_bars(spans: &mut [[i64; 2]], m: usize, more: &[[i64; 2]], n: usize) -> u
 // All ranges of a track.
 fn track_bars(
     times: &[[i64; 2]],
-    tags: &[[u32; 4]],
+    tags: &[[u32; 5]],
     n: usize,
     track: u32,
     spans: &mut [[i64; 2]],
@@ -481,7 +481,7 @@ fn track_bars(
 // in common can be less.
 fn common_bars(
     times: &[[i64; 2]],
-    tags: &[[u32; 4]],
+    tags: &[[u32; 5]],
     n: usize,
     tracks: u32,
     room: usize,

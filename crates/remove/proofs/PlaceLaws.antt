@@ -66,7 +66,7 @@ module _ (h : Head) (ts : List (List ℤ)) (gs : List (List ℕ)) (w : wellForme
 
   -- a good frame of the state
   abbrev pub isGood : Frame → Bool
-  isGood = goodFrame (length (take (h .ntracks) (h .tracks))) (h .last)
+  isGood = goodFrame (length (take (h .ntracks) (h .tracks))) (h .last) (h .group .number)
 
   pub each-good : allOf isGood (held h ts gs .frames) ≡ true
   each-good = good-facts (held h ts gs) (lent-good h ts gs w) .frames .each
@@ -74,7 +74,7 @@ module _ (h : Head) (ts : List (List ℤ)) (gs : List (List ℕ)) (w : wellForme
   -- stands on one of the tracks in use
   good-on : (f : Frame) → isGood f ≡ true → (1 ≤ f .track) × (f .track ≤ h .ntracks)
   good-on f g =
-      let t = frame-facts _ (h .last) f g in
+      let t = frame-facts _ (h .last) (h .group .number) f g in
       let n = first-length (h .tracks) (h .ntracks) (rw (laid .tracks) (laid .ntracks)) in
       (t .track-from, rw n at (t .track-to))
 
@@ -83,7 +83,7 @@ module _ (h : Head) (ts : List (List ℤ)) (gs : List (List ℕ)) (w : wellForme
   good-inside f g = omega (arith, good-on f g .1, laid .ntracks)
 
   pub good-shown : (f : Frame) → isGood f ≡ true → ltZ (f .pts) beyond ≡ true
-  good-shown f g = before-beyond (f .pts) (frame-facts _ (h .last) f g .pts)
+  good-shown f g = before-beyond (f .pts) (frame-facts _ (h .last) (h .group .number) f g .pts)
 
   pub on-tracks : allOf onTrack (held h ts gs .frames) ≡ true
   on-tracks = all-weaker isGood onTrack (λ f g. lt-ltb (f .track) 5 (good-inside f g)) (held h ts gs .frames) each-good

@@ -1,26 +1,27 @@
 // Removing a stretch of time: document 01, "Removing, aborting, setting". Any state and any times may be handed in.
 ghost use mathlib.Core.Path.{_≡_};
-ghost use mathlib.Core.Bool.{true};
+ghost use mathlib.Core.Bool.{true, false, _&&_};
 ghost use mathlib.Core.List.{_∷_};
-ghost use Prim.Native.Nat.{_+_, _≤_, _<_};
+ghost use Prim.Native.Nat.{_≤_, _<_};
+ghost use lib.Dec.{eqb};
 ghost use lib.ListN.{length, take};
-ghost use Rattle.seconds.specs.Seconds.{at, sameInt};
+ghost use Rattle.seconds.specs.Seconds.{at};
 ghost use Rattle.buffer_state.specs.declared.Frame.{Frame};
 ghost use Rattle.buffer_state.specs.Buffer.{zeroTrack};
 ghost use Rattle.buffer_state.specs.Answers.{counted, timesAfter, tagsAfter, listAfter, removeResult};
 ghost use Rattle.buffer_state.specs.Layout.{bufferOf};
 ghost use Rattle.buffer_state.specs.Lent.{framesOf, stateAt, wellFormedAt};
-ghost use Rattle.buffer_state.specs.Limits.{places};
-ghost use Rattle.buffer_state.specs.Refusals.{refused, done};
-ghost use Rattle.buffer_state.specs.Remove.{beforeBound, removed};
-ghost use Rattle.buffer_state.specs.WellFormed.{allOf};
-ghost use Rattle.taking.specs.Loss.{boundIn};
+ghost use Rattle.buffer_state.specs.Limits.{places, lastGroup};
+ghost use Rattle.buffer_state.specs.Remove.{beforeBound};
+ghost use Rattle.taking.specs.Loss.{boundIn, lossOf};
+ghost use Rattle.taking.specs.Taking.{inSpans, takenMarks, FirstIn};
 ghost use Rattle.remove.specs.Edges.{instantOf, nowhere, inOrder, stretchOf, beyond, upTo, opensAfter, isNearer, FarSpans};
-ghost use Rattle.remove.specs.Loss.{settledBy};
+ghost use Rattle.remove.specs.Loss.{isLoss, overResult, settledBy};
 use buffer_state::Count;
 use buffer_state::Counted;
 use buffer_state::Frame;
 use buffer_state::Head;
+use buffer_state::LAST_GROUP;
 use buffer_state::PLACES;
 use buffer_state::Refusal;
 use buffer_state::Tags;
@@ -147,7 +148,7 @@ fn is_nearer(f: Frame, end: Instant, s: Span) -> bool
 
 // The stretches of all tracks, from the start up to their far edges, in one pass from the back. The flag is tested by itself, so that
 // the array is read and written for the few frames that have it.
-fn far_spans(h: Head, whole: Span, end: Instant, times: &[[i64; 2]], tags: &[[u32; 4]]) -> [Span; 5]
+fn far_spans(h: Head, whole: Span, end: Instant, times: &[[i64; 2]], tags: &[[u32; 5]]) -> [Span; 5]
     requires { ⌜ (wellFormedAt h (now times) (now tags) ≡ true) × (whole .end ≡ beyond) ⌝ }
     ensures { λ r. ⌜ FarSpans (whole .start) (boundIn end) (take (h .nframes) (framesOf (now (times .entry)) (now (tags .entry)))) r ⌝ }
 {
@@ -189,9 +190,31 @@ fn by_number(t: [Track; 4]) -> [Track; 5]
     [none, t[0], t[1], t[2], t[3]]
 }
 
-// The head with so many frames left, after such a loss: regrouped there, every track begun again.
+// Refusal 9: such a loss would begin a group after the last one. In that group alone the causes are found before anything is written.
+fn lacks_group(
+    h: Head,
+    times: &[[i64; 2]],
+    tags: &[[u32; 5]],
+    first: usize,
+    spans: [Span; 5],
+    numbered: [Track; 5],
+) -> bool
+    requires { ⌜ (wellFormedAt h (now times) (now tags) ≡ true) × FirstIn (inSpans spans) (take (h .nframes) (framesOf (now times) (now tags))) (h .nframes) first ⌝ }
+    ensures { λ r. ⌜ r ≡ (isLoss (lossOf numbered (takenMarks spans 6 (take (h .nframes) (framesOf (now (times .entry)) (now (tags .entry)))))) && eqb (h .group .number) lastGroup) ⌝ }
+{
+    let g = h.group;
+    if g.number != LAST_GROUP {
+        return false;
+    }
+    let n = h.nframes;
+    let causes = taking::mark(times, tags, n, first, spans, 6);
+    let lost = taking::loss_of(times, tags, n, first, &causes, numbered);
+    lost.set
+}
+
+// The head with so many frames left, after such a loss: regrouped there, every track begun again, in the next group.
 fn settled(h: Head, left: usize, first: Instant) -> Head
-    requires { ⌜ h .ntracks ≤ 4 ⌝ }
+    requires { ⌜ (h .ntracks ≤ 4) × ((isLoss (boundIn first) && eqb (h .group .number) lastGroup) ≡ false) ⌝ }
     ensures { λ r. ⌜ r ≡ settledBy (boundIn first) left h ⌝ }
 {
     if !first.set {
@@ -202,30 +225,31 @@ fn settled(h: Head, left: usize, first: Instant) -> Head
     let restarted = tracks::restart_all(old, n);
     let mode = h.mode;
     let g = tracks::regroup(mode, h.group, first.micros);
+    let next = tracks::next_group(g);
     Head {
         tracks: restarted,
         nframes: left,
-        group: g,
+        group: next,
         ..h
     }
 }
 
 // ---- the call
 
-// A removal that is not refused: where no frame is in its track's stretch, nothing changes.
+// A removal that is not refused by its times: where no frame is in its track's stretch, nothing changes.
 fn remove_over(
     h: Head,
     start: i64,
     end: Instant,
     times: &mut [[i64; 2]],
-    tags: &mut [[u32; 4]],
+    tags: &mut [[u32; 5]],
     fates: &mut [[u32; 2]],
 ) -> Counted
     requires { ⌜ (wellFormedAt h (now times) (now tags) ≡ true) × (places ≤ length (now fates)) ⌝ }
-    ensures answer { λ r. ⌜ r ≡ counted h (done (removed start (boundIn end) (bufferOf (stateAt h (now (times .entry)) (now (tags .entry)))))) ⌝ }
-    ensures times { λ r. ⌜ now (times .exit) ≡ timesAfter (done (removed start (boundIn end) (bufferOf (stateAt h (now (times .entry)) (now (tags .entry)))))) (now (times .entry)) ⌝ }
-    ensures tags { λ r. ⌜ now (tags .exit) ≡ tagsAfter (done (removed start (boundIn end) (bufferOf (stateAt h (now (times .entry)) (now (tags .entry)))))) (now (tags .entry)) ⌝ }
-    ensures lines { λ r. ⌜ now (fates .exit) ≡ listAfter (done (removed start (boundIn end) (bufferOf (stateAt h (now (times .entry)) (now (tags .entry)))))) (now (fates .entry)) ⌝ }
+    ensures answer { λ r. ⌜ r ≡ counted h (overResult start (boundIn end) (bufferOf (stateAt h (now (times .entry)) (now (tags .entry))))) ⌝ }
+    ensures times { λ r. ⌜ now (times .exit) ≡ timesAfter (overResult start (boundIn end) (bufferOf (stateAt h (now (times .entry)) (now (tags .entry))))) (now (times .entry)) ⌝ }
+    ensures tags { λ r. ⌜ now (tags .exit) ≡ tagsAfter (overResult start (boundIn end) (bufferOf (stateAt h (now (times .entry)) (now (tags .entry))))) (now (tags .entry)) ⌝ }
+    ensures lines { λ r. ⌜ now (fates .exit) ≡ listAfter (overResult start (boundIn end) (bufferOf (stateAt h (now (times .entry)) (now (tags .entry))))) (now (fates .entry)) ⌝ }
 {
     let n = h.nframes;
     let whole = open_from(start);
@@ -239,14 +263,17 @@ fn remove_over(
     }
     let tracks = h.tracks;
     let numbered = by_number(tracks);
-    let out = taking::take_out(times, tags, n, first, spans, numbered, 6, fates);
+    if lacks_group(h, times, tags, first, spans, numbered) {
+        return buffer_state::refuse(h, Refusal::LastNumber);
+    }
+    let out = taking::take_in(times, tags, n, first, spans, numbered, 6, fates);
     Counted {
         answer: Count::Done(out.lines),
         head: settled(h, out.left, out.lost),
     }
 }
 
-// Remove from one time in seconds to another: refusals 1, 2, 5, 6 in that order.
+// Remove from one time in seconds to another: refusals 1, 2, 5, 6, 9 in that order.
 pub fn remove(
     h: Head,
     start: f64,

@@ -160,9 +160,9 @@ fn track(t: Track, i: usize, n: usize, out: &mut Output) {
 
 fn flag(on: bool, out: &mut Output) {
     if on {
-        text::put(b",1)", out);
+        text::put(b",1", out);
     } else {
-        text::put(b",0)", out);
+        text::put(b",0", out);
     }
 }
 
@@ -178,9 +178,12 @@ fn frame(f: Frame, out: &mut Output) {
     text::put(b",", out);
     text::small(f.duration, out);
     flag(f.flagged, out);
+    text::put(b",", out);
+    text::small(f.group, out);
+    text::put(b")", out);
 }
 
-fn frames(times: &[[i64; 2]], tags: &[[u32; 4]], n: usize, out: &mut Output)
+fn frames(times: &[[i64; 2]], tags: &[[u32; 5]], n: usize, out: &mut Output)
     requires { ⌜ (length (now times) ≡ places) × (length (now tags) ≡ places) ⌝ }
 {
     for i in 0..n {
@@ -208,9 +211,11 @@ pub fn state(h: Head, times: &Times, tags: &Tags, out: &mut Output) {
     kind(ts[3], 3, n, out);
     text::put(b" last=", out);
     text::small(h.last, out);
+    let g = h.group;
+    text::put(b" group=", out);
+    text::small(g.number, out);
     let m = h.mode;
     mode(m, out);
-    let g = h.group;
     group(g, out);
     let k = h.settings;
     kept(k, out);

@@ -288,11 +288,11 @@ fn main() {
     let mut line = [0u8; 131072];
     let mut rows = [[0i64; 6]; 65]; // of a batch: one more than it may have, as more are refused like 65
     let mut times = [[0i64; 2]; PLACES];
-    let mut tags = [[0u32; 4]; PLACES];
+    let mut tags = [[0u32; 5]; PLACES];
     let mut second_times = [[0i64; 2]; PLACES];
-    let mut second_tags = [[0u32; 4]; PLACES];
+    let mut second_tags = [[0u32; 5]; PLACES];
     let mut saved_times = [[0i64; 2]; PLACES];
-    let mut saved_tags = [[0u32; 4]; PLACES];
+    let mut saved_tags = [[0u32; 5]; PLACES];
     let mut out = text::no_output();
     let kept = run(
         &mut chunk,

@@ -394,17 +394,13 @@ fn poked_group(g: Group, name: &[u8], value: &[u8]) -> PokedGroup {
         let group = Group {
             begun: m.set,
             start: m.micros,
-            end: g.end,
+            ..g
         };
         return PokedGroup { verdict, group };
     }
     let m = time(value);
     let verdict = m.verdict;
-    let group = Group {
-        begun: g.begun,
-        start: g.start,
-        end: m.micros,
-    };
+    let group = Group { end: m.micros, ..g };
     PokedGroup { verdict, group }
 }
 
@@ -495,13 +491,17 @@ fn poke_mode(slot: Slot, value: &[u8]) -> Poked {
     poked_with(v, slot, Head { mode, ..h })
 }
 
-// A count, of frames or of tracks, or the last frame number.
+// A count, of frames or of tracks, the last frame number or the group number.
 fn poke_number(slot: Slot, name: &[u8], value: &[u8]) -> Poked {
     let n = number(text::read::as_small(value));
     let v = n.verdict;
     let mut h = slot.head;
     if check::same(name, b"last-number") {
         h.last = n.number;
+        return poked_with(v, slot, h);
+    }
+    if check::same(name, b"group") {
+        h.group.number = n.number;
         return poked_with(v, slot, h);
     }
     if check::same(name, b"tracks") {
@@ -514,6 +514,9 @@ fn poke_number(slot: Slot, name: &[u8], value: &[u8]) -> Poked {
 
 fn is_number(name: &[u8]) -> bool {
     if check::same(name, b"last-number") {
+        return true;
+    }
+    if check::same(name, b"group") {
         return true;
     }
     if check::same(name, b"tracks") {
@@ -538,9 +541,9 @@ fn is_done(v: Verdict) -> bool {
     }
 }
 
-// The column of the tags that a field is in; 4 where it is in none.
+// The column of the tags that a field is in; 5 where it is in none.
 fn tag_column(name: &[u8]) -> usize
-    ensures { λ r. ⌜ r ≤ 4 ⌝ }
+    ensures { λ r. ⌜ r ≤ 5 ⌝ }
 {
     if check::same(name, b"track") {
         return 0;
@@ -554,7 +557,10 @@ fn tag_column(name: &[u8]) -> usize
     if check::same(name, b"number") {
         return 3;
     }
-    4
+    if check::same(name, b"group") {
+        return 4;
+    }
+    5
 }
 
 // The column of the times; 2 where it is in none.
@@ -570,8 +576,8 @@ fn time_column(name: &[u8]) -> usize
     2
 }
 
-fn tag_with(row: [u32; 4], column: usize, n: u32) -> [u32; 4]
-    requires { ⌜ column < 4 ⌝ }
+fn tag_with(row: [u32; 5], column: usize, n: u32) -> [u32; 5]
+    requires { ⌜ column < 5 ⌝ }
 {
     let mut out = row;
     out[column] = n;
@@ -587,8 +593,8 @@ fn time_with(row: [i64; 2], column: usize, z: i64) -> [i64; 2]
 }
 
 // A number of a row is written where it could be read and there is a buffer.
-fn poke_tag(slot: Slot, value: &[u8], tags: &mut [[u32; 4]], at: usize, column: usize) -> Poked
-    requires { ⌜ (at < length (now tags)) × (column < 4) ⌝ }
+fn poke_tag(slot: Slot, value: &[u8], tags: &mut [[u32; 5]], at: usize, column: usize) -> Poked
+    requires { ⌜ (at < length (now tags)) × (column < 5) ⌝ }
 {
     let n = number(text::read::as_small(value));
     let verdict = n.verdict;
@@ -617,7 +623,7 @@ fn poke_frame(
     line: &[u8],
     w: Words,
     times: &mut [[i64; 2]],
-    tags: &mut [[u32; 4]],
+    tags: &mut [[u32; 5]],
 ) -> Poked
     requires { ⌜ (length (now times) ≡ places) × (length (now tags) ≡ places) ⌝ }
 {
@@ -629,7 +635,7 @@ fn poke_frame(
     let name = word(line, w, 3);
     let value = word(line, w, 4);
     let tag = tag_column(name);
-    if tag < 4 {
+    if tag < 5 {
         return poke_tag(slot, value, tags, at, tag);
     }
     let time = time_column(name);

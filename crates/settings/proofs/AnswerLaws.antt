@@ -24,7 +24,7 @@ use Rattle.buffer_state.specs.declared.WindowEnd.{WindowEnd}
 use Rattle.buffer_state.specs.declared.WindowEnd.the-variants.{Unbounded, At}
 use Rattle.buffer_state.specs.Answers.{changed, readWith, read, settingsAnswer}
 use Rattle.buffer_state.specs.declared.Read.the-variants as Read
-use Rattle.buffer_state.specs.Buffer.{Buffer, withGroup, withSettings, zeroTrack, restarted, withNeed, isSequence, startAtEnd}
+use Rattle.buffer_state.specs.Buffer.{Buffer, withGroup, withSettings, zeroTrack, restarted, withNeed, isSequence, startAtEnd, nextGroup}
 use Rattle.buffer_state.specs.Layout.{padded, bufferOf, laidOut, wellFormed}
 use Rattle.buffer_state.specs.Lent.{stateAt, headOf, wellFormedAt, onLent}
 use Rattle.buffer_state.specs.Refusals.{Result, refused, done, refuseIf}
@@ -40,6 +40,11 @@ module _ (call : Buffer → Result Buffer) (h : Head) (ts : List (List ℤ)) (gs
 
   pub going-on : wellFormedAt h ts gs ≡ true → changed h (onLent call h ts gs) ≡ changed h (call (bufferOf (stateAt h ts gs)))
   going-on w = ap (changed h) (on-well-formed call h ts gs w)
+
+-- whether a group is numbered before or after it is made to start at its end
+next-after : (q : Bool) (g : Group) → cond q (startAtEnd (nextGroup g)) (nextGroup g) ≡ nextGroup (cond q (startAtEnd g) g)
+next-after true g = refl
+next-after false g = refl
 
 module _ (h : Head) (ts : List (List ℤ)) (gs : List (List ℕ)) (w : wellFormedAt h ts gs ≡ true) where
   -- the buffer that is held
@@ -82,18 +87,19 @@ module _ (h : Head) (ts : List (List ℤ)) (gs : List (List ℕ)) (w : wellForme
 
   -- Abort: the tracks restarted, the group and the window as the definition has them.
   pub aborted-head : (us : List Track) (g : Group) (t : Settings) → us ≡ map (λ (x : Track). cond true (restarted x) (withNeed true x)) (take (h .ntracks) (h .tracks)) ++ drop (h .ntracks) (h .tracks)
-      → g ≡ cond (isSequence (h .mode)) (startAtEnd (h .group)) (h .group) → t ≡ openWindow (h .settings .offset)
+      → g ≡ cond (isSequence (h .mode)) (startAtEnd (nextGroup (h .group))) (nextGroup (h .group)) → t ≡ openWindow (h .settings .offset)
       → _≡_ {A = Head} (record { tracks = us; ntracks = h .ntracks; nframes = h .nframes; mode = h .mode; group = g; last = h .last; settings = t }) (headOf (aborted b))
   unfolding aborted
   aborted-head us g t p q r =
       let d = p ∙ mapped-tracks restarted in
       let n = mapped-count restarted in
+      let next = q ∙ next-after (isSequence (h .mode)) (h .group) in
       λ i. record {
         tracks = d i;
         ntracks = n i;
         nframes = back i .nframes;
         mode = h .mode;
-        group = q i;
+        group = next i;
         last = h .last;
         settings = r i;
       }
@@ -109,12 +115,12 @@ module _ (h : Head) (ts : List (List ℤ)) (gs : List (List ℕ)) (w : wellForme
       t : Settings
       t = record { offset = record { seconds = x; micros = z }; start = h .settings .start; end = h .settings .end; limit = h .settings .limit }
 
-      laid : (q : Bool) → headOf (cond q (withGroup (withSettings b t) (record { begun = true; start = z; end = h .group .end })) (withSettings b t))
-          ≡ resettled h (cond q (record { begun = true; start = z; end = h .group .end }) (h .group)) t
-      laid true = sym (kept-head (h .mode) (record { begun = true; start = z; end = h .group .end }) t)
+      laid : (q : Bool) → headOf (cond q (withGroup (withSettings b t) (record { begun = true; start = z; end = h .group .end; number = h .group .number })) (withSettings b t))
+          ≡ resettled h (cond q (record { begun = true; start = z; end = h .group .end; number = h .group .number }) (h .group)) t
+      laid true = sym (kept-head (h .mode) (record { begun = true; start = z; end = h .group .end; number = h .group .number }) t)
       laid false = sym (kept-head (h .mode) (h .group) t)
 
-      go : (c : Bool) → changed h (refuseIf (not c) Seconds (done (cond (isSequence (h .mode)) (withGroup (withSettings b t) (record { begun = true; start = z; end = h .group .end })) (withSettings b t))))
+      go : (c : Bool) → changed h (refuseIf (not c) Seconds (done (cond (isSequence (h .mode)) (withGroup (withSettings b t) (record { begun = true; start = z; end = h .group .end; number = h .group .number })) (withSettings b t))))
           ≡ offsetBy h x (cond c (Micros.At z) Micros.Refused)
       go true = ap accepted (laid (isSequence (h .mode)))
       go false = refl

@@ -42,7 +42,7 @@ accepted h = record { answer = Done; head = h }
 
 -- group start set to z in sequence mode
 abbrev pub groupFrom : Mode → Group → ℤ → Group
-groupFrom m g z = cond (isSequence m) (record { begun = true; start = z; end = g .end }) g
+groupFrom m g z = cond (isSequence m) (record { begun = true; start = z; end = g .end; number = g .number }) g
 
 -- the head with other settings and another group
 abbrev pub resettled : Head → Group → Settings → Head
@@ -99,7 +99,7 @@ freshHead ts n = record {
   ntracks = n;
   nframes = 0;
   mode = Segments;
-  group = record { begun = false; start = pos 0; end = pos 0 };
+  group = record { begun = false; start = pos 0; end = pos 0; number = 0 };
   last = 0;
   settings = freshSettings;
 }

@@ -20,6 +20,7 @@ use buffer_state::Answer;
 use buffer_state::Changed;
 use buffer_state::Group;
 use buffer_state::Head;
+use buffer_state::LAST_GROUP;
 use buffer_state::Mode;
 use buffer_state::PLACES;
 use buffer_state::Read;
@@ -77,18 +78,22 @@ fn open_window(o: Setting) -> Settings
     }
 }
 
-// Abort: refusal 1 only.
+// Abort: refusals 1 and 9 in that order.
 pub fn abort(h: Head, times: &Times, tags: &Tags) -> Changed
     ensures { λ r. ⌜ r ≡ abortAnswer h (now (times .entry)) (now (tags .entry)) ⌝ }
 {
     if !validation::well_formed(h, times, tags) {
         return refuse(Refusal::IllFormed, h);
     }
+    let g = h.group;
+    if g.number == LAST_GROUP {
+        return refuse(Refusal::LastNumber, h);
+    }
     let old = h.tracks;
     let n = h.ntracks;
     let restarted = tracks::restart_all(old, n);
     let m = h.mode;
-    let started = group_after(m, h.group);
+    let started = group_after(m, tracks::next_group(g));
     let t = h.settings;
     let w = open_window(t.offset);
     done(Head {
@@ -134,6 +139,7 @@ fn group_from(m: Mode, g: Group, z: i64) -> Group
             begun: true,
             start: z,
             end: e,
+            number: g.number,
         };
     }
     g
@@ -351,6 +357,7 @@ fn fresh_head(tracks: [Track; 4], n: usize) -> Head
         begun: false,
         start: 0,
         end: 0,
+        number: 0,
     };
     let t = open_window(o);
     Head {
@@ -373,7 +380,7 @@ pub fn no_head() -> Changed
 }
 
 // A creation on slices.
-fn create_in(kinds: &[u8], times: &mut [[i64; 2]], tags: &mut [[u32; 4]]) -> Changed
+fn create_in(kinds: &[u8], times: &mut [[i64; 2]], tags: &mut [[u32; 5]]) -> Changed
     requires { ⌜ Lengths (now times) (now tags) ⌝ }
     ensures answer { λ r. ⌜ r ≡ createAnswer (now (kinds .entry)) ⌝ }
     ensures times { λ r. ⌜ now (times .exit) ≡ timesCreated (create (now (kinds .entry))) (now (times .entry)) ⌝ }

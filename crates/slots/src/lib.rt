@@ -167,7 +167,7 @@ fn copy_times(from: &[[i64; 2]], to: &mut [[i64; 2]])
     places::copy_rows(from, n, to);
 }
 
-fn copy_tags(from: &[[u32; 4]], to: &mut [[u32; 4]])
+fn copy_tags(from: &[[u32; 5]], to: &mut [[u32; 5]])
     requires { ⌜ length (now from) ≡ length (now to) ⌝ }
     ensures { λ r. ⌜ now (to .exit) ≡ now (from .entry) ⌝ }
 {

@@ -1,4 +1,5 @@
-// The worked cases of document 01, run by the compiled calls; what is written is compared with the file stdout.
+// The worked cases of document 01, and of document 02, No. 4, S and X as buffer_state/specs/Soundings.antt names them, run by the compiled
+// calls; what is written is compared with the file stdout.
 // A line for each call: its answer, with the fate lines or the ranges that it wrote. One store is lent to all cases, and each creates its
 // buffers in it anew.
 ghost use mathlib.Core.Path.{_≡_};
@@ -9,6 +10,7 @@ use buffer_state::Changed;
 use buffer_state::Count;
 use buffer_state::Counted;
 use buffer_state::Frame;
+use buffer_state::Group;
 use buffer_state::Head;
 use buffer_state::Mode;
 use buffer_state::Offered;
@@ -46,7 +48,7 @@ fn frame(f: Frame, out: &mut Output) {
     text::time(f.dts, out);
 }
 
-fn place(times: &[[i64; 2]], tags: &[[u32; 4]], i: usize, out: &mut Output)
+fn place(times: &[[i64; 2]], tags: &[[u32; 5]], i: usize, out: &mut Output)
     requires { ⌜ (length (now times) ≡ places) × (length (now tags) ≡ places) ⌝ }
 {
     if i < PLACES {
@@ -54,7 +56,7 @@ fn place(times: &[[i64; 2]], tags: &[[u32; 4]], i: usize, out: &mut Output)
     }
 }
 
-fn frames(times: &[[i64; 2]], tags: &[[u32; 4]], n: usize, out: &mut Output)
+fn frames(times: &[[i64; 2]], tags: &[[u32; 5]], n: usize, out: &mut Output)
     requires { ⌜ (length (now times) ≡ places) × (length (now tags) ≡ places) ⌝ }
 {
     for i in 0..n {
@@ -321,9 +323,44 @@ fn case_l(times: &mut Times, tags: &mut Tags, out: &mut Output) {
     report(k, times, tags, out);
 }
 
+// The example of No. 4: old frame 2 goes, and new frame 4 stays.
+fn case_s(times: &mut Times, tags: &mut Tags, out: &mut Output) {
+    text::put(b"S\n", out);
+    let f = r(fresh(times, tags), 0, 0, times, tags, out);
+    let h = abort(p(f, 400, 150, times, tags, out), times, tags, out);
+    let k = r(h, 200, 100, times, tags, out);
+    let l = p(k, 300, 200, times, tags, out);
+    let m = p(l, 400, 250, times, tags, out);
+    stored(m, times, tags, out);
+    report(m, times, tags, out);
+}
+
+fn in_last_group(h: Head) -> Head {
+    let g = h.group;
+    let last = Group {
+        number: 4294967295,
+        ..g
+    };
+    Head { group: last, ..h }
+}
+
+// Whatever would begin a group after the last is refused; the last is used.
+fn case_x(times: &mut Times, tags: &mut Tags, out: &mut Output) {
+    text::put(b"X\n", out);
+    let f = abort(in_last_group(fresh(times, tags)), times, tags, out);
+    let h = r(f, 0, 0, times, tags, out);
+    let k = p(h, 100, 100, times, tags, out);
+    p(k, 400, 301, times, tags, out);
+    remove(k, 0.00005, 0.00015, times, tags, out);
+    let l = r(k, 200, 200, times, tags, out);
+    let m = remove(l, 0.00005, 0.00015, times, tags, out);
+    stored(m, times, tags, out);
+    report(m, times, tags, out);
+}
+
 fn main() {
     let mut times = [[0i64; 2]; PLACES];
-    let mut tags = [[0u32; 4]; PLACES];
+    let mut tags = [[0u32; 5]; PLACES];
     let mut out = text::no_output();
     case_a(&mut times, &mut tags, &mut out);
     case_b(&mut times, &mut tags, &mut out);
@@ -336,5 +373,7 @@ fn main() {
     case_i(&mut times, &mut tags, &mut out);
     case_j(&mut times, &mut tags, &mut out);
     case_l(&mut times, &mut tags, &mut out);
+    case_s(&mut times, &mut tags, &mut out);
+    case_x(&mut times, &mut tags, &mut out);
     text::tell_failed(b"soundings", &out);
 }

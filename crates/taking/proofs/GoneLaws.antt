@@ -1,7 +1,7 @@
 -- Which frames a test and step 8's walk take out: none where none passes the test; and one that passes frees its place.
 use mathlib.Core.Path.{_≡_, refl, sym, ap, _∙_}
 use mathlib.Core.Bool.{Bool, true, false, cond, not, and-false}
-use mathlib.Core.List.{List, [], _∷_}
+use mathlib.Core.List.{List, [], _∷_, _++_, map, append-nil}
 use Prim.Native.Nat.{ℕ, suc, _+_, _≤_, _<_}
 use native.Mathlib.Numerals.{add-one}
 use native.Mathlib.Omega.{arith}
@@ -12,12 +12,13 @@ use borrow.Author.Tests.{not-true, ne-eqb, ltb-true}
 use Rattle.laws.proofs.BoolLaws.{split, clash}
 use Rattle.buffer_state.specs.declared.Frame.{Frame}
 use Rattle.buffer_state.specs.Layout.{zeroFrame}
-use Rattle.buffer_state.specs.Store.{Marked, isTaken, markWhere, followsTaken, walkOne, walkFrom, walk, kept, linesOf}
+use Rattle.buffer_state.specs.Store.{Marked, isTaken, markWhere, isOf, followsTaken, walkOne, walkFrom, walk, kept, linesOf}
 use Rattle.buffer_state.specs.WellFormed.{allOf}
 use Rattle.buffer_laws.proofs.TestLaws.{all-none, all-getD, all-first, all-rest, all-more, all-append}
 use Rattle.laws.proofs.ListLaws.{first-length}
 use Rattle.taking.specs.Marks.{mark}
 use Rattle.taking.specs.Taking.{onTrack}
+use Rattle.taking.proofs.MarkLaws.{still, kept-still, lines-still}
 
 -- one more of the first n passes
 pub all-next : {A : Type 0} (p : A → Bool) (l : List A) (n : ℕ) → n ≤ length l → (i : ℕ) (z : A) → i < n → p (getD l i z) ≡ true
@@ -41,37 +42,67 @@ marks-same ok p q e cause (g ∷ l) h =
     let rest = marks-same ok p q e cause l (all-rest ok g l h) in
     λ j. mark g (cond (here j) cause 0) ∷ rest j
 
+-- ---- frames that stay
+
+abbrev NoneFollows : List Marked → Type 0
+NoneFollows walked = (track group : ℕ) → followsTaken track group walked ≡ false
+
+-- the frames walked, after some that stay
+unfoldable pub passed : List Marked → List Frame → List Marked
+passed walked [] = walked
+passed walked (f ∷ l) = passed (still f ∷ walked) l
+
+still-none : (walked : List Marked) → NoneFollows walked → (f : Frame) → NoneFollows (still f ∷ walked)
+unfolding followsTaken
+still-none walked none f track group = rw (none track group, and-false (not (f .flagged))) (both (isOf track group f))
+  where
+    both : (b : Bool) → cond b false false ≡ false
+    both true = refl
+    both false = refl
+
+passed-none : (walked : List Marked) → NoneFollows walked → (l : List Frame) → NoneFollows (passed walked l)
+unfolding passed
+passed-none walked none [] = none
+passed-none walked none (f ∷ l) = passed-none (still f ∷ walked) (still-none walked none f) l
+
+-- after them no frame follows a taken one
+pub none-follows : (l : List Frame) → NoneFollows (passed [] l)
+unfolding followsTaken
+none-follows l = passed-none [] (λ track group. refl) l
+
 module _ (p : Frame → Bool) (cause : ℕ) where
   -- ---- none is marked
 
-  abbrev NoneFollows : List Marked → Type 0
-  NoneFollows walked = (t : ℕ) → followsTaken t walked ≡ false
+  stays : (walked : List Marked) → NoneFollows walked → (f : Frame) → p f ≡ false → walkOne walked (mark f (cond (p f) cause 0)) ≡ still f
+  stays walked none f e = rw (e, none (f .track) (f .group), and-false (not (f .flagged)))
 
-  still-none : (walked : List Marked) → NoneFollows walked → (f : Frame) → NoneFollows (mark f 0 ∷ walked)
-  unfolding followsTaken
-  still-none walked none f t = rw (none t, and-false (not (f .flagged))) (both (eqb (f .track) t))
-    where
-      both : (b : Bool) → cond b false false ≡ false
-      both true = refl
-      both false = refl
-
-  stays : (walked : List Marked) → NoneFollows walked → (f : Frame) → p f ≡ false → walkOne walked (mark f (cond (p f) cause 0)) ≡ mark f 0
-  stays walked none f e = rw (e, none (f .track), and-false (not (f .flagged)))
-
-  none-from : (walked : List Marked) → NoneFollows walked → (l : List Frame) → allOf (λ (g : Frame). not (p g)) l ≡ true
-      → (kept (walkFrom walked (markWhere p cause l)) ≡ l) × (linesOf (walkFrom walked (markWhere p cause l)) ≡ [])
-  unfolding walkFrom kept linesOf
-  none-from walked none [] e = (refl, refl)
-  none-from walked none (f ∷ l) e =
+  walk-passed : (walked : List Marked) → NoneFollows walked → (l r : List Frame) → allOf (λ (g : Frame). not (p g)) l ≡ true
+      → walkFrom walked (markWhere p cause (l ++ r)) ≡ map still l ++ walkFrom (passed walked l) (markWhere p cause r)
+  unfolding walkFrom passed
+  walk-passed walked none [] r e = refl
+  walk-passed walked none (f ∷ l) r e =
       let out : p f ≡ false = not-true _ (all-first (λ (g : Frame). not (p g)) f l e) in
-      let rest = none-from (mark f 0 ∷ walked) (still-none walked none f) l (all-rest (λ (g : Frame). not (p g)) f l e) in
-      rw (stays walked none f out) (ap (λ (r : List Frame). f ∷ r) (rest .0), rest .1)
+      let rest = walk-passed (still f ∷ walked) (still-none walked none f) l r (all-rest (λ (g : Frame). not (p g)) f l e) in
+      rw (stays walked none f out) (ap (λ (ms : List Marked). still f ∷ ms) rest)
 
-  -- all stay, and nothing is told
+  -- the walk goes on from them
+  pub walk-from : (l r : List Frame) → allOf (λ (g : Frame). not (p g)) l ≡ true
+      → walk (markWhere p cause (l ++ r)) ≡ map still l ++ walkFrom (passed [] l) (markWhere p cause r)
+  unfolding followsTaken
+  walk-from l r e = walk-passed [] (λ track group. refl) l r e
+
+  -- all stay
+  pub none-marked : (l : List Frame) → allOf (λ (g : Frame). not (p g)) l ≡ true → walk (markWhere p cause l) ≡ map still l
+  unfolding walkFrom
+  none-marked l e = ap (λ (x : List Frame). walk (markWhere p cause x)) (sym (append-nil l)) ∙ walk-from l [] e ∙ append-nil (map still l)
+
+  -- and nothing is told
   pub none-gone : (l : List Frame) → allOf (λ (g : Frame). not (p g)) l ≡ true
       → (kept (walk (markWhere p cause l)) ≡ l) × (linesOf (walk (markWhere p cause l)) ≡ [])
-  unfolding followsTaken
-  none-gone l e = none-from [] (λ t. refl) l e
+  unfolding kept linesOf
+  none-gone l e =
+      let m = none-marked l e ∙ sym (append-nil (map still l)) in
+      (ap kept m ∙ kept-still l [] ∙ append-nil l, ap linesOf m ∙ lines-still l [])
 
   -- ---- one is marked
 

@@ -1,8 +1,10 @@
 pub mod WalkLaws
-pub mod ArmLaws
-pub mod TurnLaws
-pub mod LoopLaws
-pub mod EndLaws
-pub mod FromLaws
+pub mod MarkLaws
 pub mod GoneLaws
+pub mod SlotLaws
+pub mod TurnLaws
+pub mod AlongLaws
+pub mod LoopLaws
+pub mod FromLaws
+pub mod EndLaws
 pub mod LossLaws

@@ -1,80 +1,62 @@
 -- The first loss, one frame after another.
 use mathlib.Core.Path.{_≡_, refl, sym, ap, _∙_}
-use mathlib.Core.Bool.{Bool, true, false, cond, not, _&&_}
+use mathlib.Core.Bool.{Bool, true, false, cond, and-false}
 use mathlib.Core.List.{List, [], _∷_, _++_, map}
 use Prim.Native.Nat.{ℕ}
 use lib.Dec.{eqb}
 use lib.ListN.{take, drop, getD, take-append-drop}
+use borrow.Author.Tests.{eq-eqb, ne-eqb}
 use Rattle.seconds.specs.Seconds.{Bound, unbounded, at}
 use Rattle.buffer_state.specs.declared.Frame.{Frame}
 use Rattle.buffer_state.specs.declared.Track.{Track}
 use Rattle.buffer_state.specs.Buffer.{zeroTrack}
 use Rattle.buffer_state.specs.Store.{Marked}
-use Rattle.buffer_state.specs.WellFormed.{allOf, sorted}
-use Rattle.taking.specs.declared.Span.{Span}
-use Rattle.taking.specs.Marks.{mark}
 use Rattle.taking.specs.Loss.{earlier, ends, lossHere, lossOf}
-use Rattle.taking.specs.Taking.{inSpans, takenMarks}
-use Rattle.taking.proofs.WalkLaws.{stepped}
-use Rattle.taking.proofs.ArmLaws.{still, causeOf, stepped-still, stepped-walk}
+use Rattle.taking.specs.Marks.{mark}
+use Rattle.taking.proofs.MarkLaws.{still}
 
-pub earlier-none : (l : Bound) → earlier l unbounded ≡ l
+pub earlier-none : (b : Bound) → earlier b unbounded ≡ b
 earlier-none unbounded = refl
 earlier-none (at z) = refl
 
 module _ (ts : List Track) where
   -- frames that stay are no loss
-  pub loss-still : (l : List Frame) (ms : List Marked) → lossOf ts (map still l ++ ms) ≡ lossOf ts ms
+  loss-still : (l : List Frame) (ms : List Marked) → lossOf ts (map still l ++ ms) ≡ lossOf ts ms
   unfolding lossOf
   loss-still [] ms = refl
   loss-still (f ∷ l) ms = loss-still l ms
 
-  pub loss-kept : (g : Frame) (ms : List Marked) → lossOf ts (still g ∷ ms) ≡ lossOf ts ms
-  loss-kept g ms = loss-still (g ∷ []) ms
+  pub loss-first : (ms : List Marked) (first : ℕ) (l : List Frame) → take first ms ≡ map still l → lossOf ts (drop first ms) ≡ lossOf ts ms
+  loss-first ms first l out =
+      sym (loss-still l _)
+      ∙ ap (λ (early : List Marked). lossOf ts (early ++ drop first ms)) (sym out)
+      ∙ ap (lossOf ts) (take-append-drop first ms)
 
-  -- a frame that goes is the loss, or it is further on
-  pub loss-gone : (l : Bound) (g : Frame) (c : ℕ) (ms : List Marked) → eqb c 0 ≡ false
-      → earlier l (lossOf ts (mark g c ∷ ms)) ≡ earlier (earlier l (lossHere (getD ts (g .track) zeroTrack) g)) (lossOf ts ms)
+  pub loss-none : (ms : List Marked) → ms ≡ [] → lossOf ts ms ≡ unbounded
   unfolding lossOf
-  loss-gone unbounded g c ms e = rw e (by-end (ends (getD ts (g .track) zeroTrack) g))
-    where
-      by-end : (t : Bool) → cond t (at (g .pts)) (lossOf ts ms) ≡ earlier (cond t (at (g .pts)) unbounded) (lossOf ts ms)
-      by-end true = refl
-      by-end false = refl
-  loss-gone (at z) g c ms e = refl
+  loss-none ms e = rw e
 
-  -- it is that of all where none before the first goes
-  pub loss-first : (spans : List Span) (cause : ℕ) (first : ℕ) (frames : List Frame) → sorted frames ≡ true
-      → allOf (λ (g : Frame). not (inSpans spans g)) (take first frames) ≡ true
-      → lossOf ts (stepped (causeOf (inSpans spans) cause) 0 false (drop first frames)) ≡ lossOf ts (takenMarks spans cause frames)
-  loss-first spans cause first frames order out =
-      sym (loss-still (take first frames) _)
-      ∙ ap (lossOf ts)
-      (sym (stepped-still (inSpans spans) cause (take first frames) (drop first frames) out)
-      ∙ ap (stepped (causeOf (inSpans spans) cause) 0 false) (take-append-drop first frames)
-      ∙ stepped-walk (inSpans spans) cause frames order)
+  -- ---- the next frame
 
-  pub loss-end : (track : ℕ) (follows : Bool) (p : Frame → ℕ) (l : List Frame) → l ≡ [] → lossOf ts (stepped p track follows l) ≡ unbounded
-  unfolding lossOf stepped
-  loss-end track follows p l e = rw e
+  module _ (g : Frame) (c : ℕ) (ms rest : List Marked) (next : ms ≡ mark g c ∷ rest) where
+    pub loss-stays : c ≡ 0 → lossOf ts ms ≡ lossOf ts rest
+    unfolding lossOf
+    loss-stays e = rw (next, eq-eqb c 0 e)
 
-  -- ---- a turn of the loop: what is known of all the frames is known with one frame fewer
+    pub loss-passed : ends (getD ts (g .track) zeroTrack) g ≡ false → lossOf ts ms ≡ lossOf ts rest
+    unfolding lossOf
+    loss-passed e = rw (next, e, and-false _)
 
-  module _ (p : Frame → ℕ) (track : ℕ) (follows : Bool) (l r : List Frame) (g : Frame) (next : l ≡ g ∷ r) (lost all : Bound)
-      (known : earlier lost (lossOf ts (stepped p track follows l)) ≡ all) (along : ℕ) (after : Bool) where
-    abbrev rest : List Marked
-    rest = stepped p along after r
+    pub loss-here : (c ≡ 0 → ⊥) → ends (getD ts (g .track) zeroTrack) g ≡ true → lossOf ts ms ≡ at (g .pts)
+    unfolding lossOf
+    loss-here some e = rw (next, e, ne-eqb c 0 some)
 
-    pub lost-gone : (c : ℕ) → eqb c 0 ≡ false → stepped p track follows (g ∷ r) ≡ mark g c ∷ rest
-        → (found : Bound) → found ≡ earlier lost (lossHere (getD ts (g .track) zeroTrack) g) → earlier found (lossOf ts rest) ≡ all
-    lost-gone c some arm found e =
-        ap (λ (b : Bound). earlier b (lossOf ts rest)) e
-        ∙ sym (loss-gone lost g c rest some)
-        ∙ ap (λ (ms : List Marked). earlier lost (lossOf ts ms)) (sym (ap (stepped p track follows) next ∙ arm))
-        ∙ known
-
-    pub lost-kept : stepped p track follows (g ∷ r) ≡ still g ∷ rest → earlier lost (lossOf ts rest) ≡ all
-    lost-kept arm =
-        ap (earlier lost) (sym (loss-kept g rest))
-        ∙ ap (λ (ms : List Marked). earlier lost (lossOf ts ms)) (sym (ap (stepped p track follows) next ∙ arm))
-        ∙ known
+    -- a frame that goes is the loss, or it is further on
+    pub loss-gone : (lost : Bound) → eqb c 0 ≡ false → earlier (earlier lost (lossHere (getD ts (g .track) zeroTrack) g)) (lossOf ts rest) ≡ earlier lost (lossOf ts ms)
+    unfolding lossOf
+    loss-gone unbounded some = rw (next, some) (by-end (ends (getD ts (g .track) zeroTrack) g))
+      where
+        by-end : (t : Bool) → earlier (cond t (at (g .pts)) unbounded) (lossOf ts rest) ≡ cond t (at (g .pts)) (lossOf ts rest)
+        by-end true = refl
+        by-end false = refl
+    loss-gone (at z) some = refl

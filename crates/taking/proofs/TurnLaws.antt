@@ -1,14 +1,24 @@
 -- An array overwritten from its front by the images of a list, one at a time; then cleared up to n.
 use mathlib.Core.Path.{_≡_, refl, sym, ap, _∙_}
-use mathlib.Core.List.{List, [], _∷_, _++_, map, map-append, append-assoc}
+use mathlib.Core.List.{List, [], _∷_, _++_, map, map-append, append-assoc, cons-ne-nil}
 use Prim.Native.Nat.{ℕ, zero, suc, _+_, _-_, _≤_, _<_}
 use native.Mathlib.Nat.{not-suc-le-zero}
+use native.Mathlib.Numerals.{add-one}
 use native.Mathlib.Omega.{arith}
 use lib.ListN.{length, take, drop, getD, set, replicate, length-map, length-drop, replicate-append-replicate}
 use lib.Seq.{length-take-le, take-all, take-at, drop-append-add}
 use Rattle.places.proofs.ListLaws.{front-more, front-read}
 use Rattle.buffer_state.specs.Layout.{padded}
-use Rattle.taking.proofs.ArmLaws.{next-of}
+
+-- the next of a list
+pub next-of : {A : Type 0} (l : List A) (k : ℕ) (x : A) (r : List A) → drop k l ≡ x ∷ r → (k < length l) × (take (k + 1) l ≡ take k l ++ (x ∷ [])) × (drop (k + 1) l ≡ r)
+next-of l k x r e = rw (add-one k) (go l k e)
+  where
+    go : (l : List _) (k : ℕ) → drop k l ≡ x ∷ r → (k < length l) × (take (suc k) l ≡ take k l ++ (x ∷ [])) × (drop (suc k) l ≡ r)
+    go [] zero e = absurd (cons-ne-nil x r (sym e))
+    go [] (suc k) e = absurd (cons-ne-nil x r (sym e))
+    go (y ∷ l) zero e = let p : y ≡ x = cc in let q : l ≡ r = cc in (omega arith, rw p, q)
+    go (y ∷ l) (suc k) e = let g = go l k e in (omega (arith, g .0), ap (λ (z : List _). y ∷ z) (g .1), g .2)
 
 -- an element inside is read whatever stands past the end
 pub map-read : {A B : Type 0} (f : A → B) (l : List A) (i : ℕ) (z : A) (y : B) → i < length l → getD (map f l) i y ≡ f (getD l i z)

@@ -1,7 +1,7 @@
 -- Frames presented in a stretch of time, one stretch for each track, and what their taking leaves and tells.
 use mathlib.Core.Path.{_≡_}
 use mathlib.Core.Bool.{Bool, true, false, not, _&&_}
-use mathlib.Core.List.{List}
+use mathlib.Core.List.{List, []}
 use Prim.Native.Nat.{ℕ, _≤_, _<_}
 use lib.Dec.{ltb}
 use lib.IntN.{pos}
@@ -10,6 +10,7 @@ use lib.Signed.{leZ, ltZ}
 use Rattle.buffer_state.specs.declared.Frame.{Frame}
 use Rattle.buffer_state.specs.Store.{Marked, markWhere, walk}
 use Rattle.buffer_state.specs.WellFormed.{allOf}
+use Rattle.groups.specs.Groups.{groupIn}
 use Rattle.taking.specs.declared.Span.{Span}
 
 -- a track number has its place among the stretches
@@ -36,3 +37,7 @@ pub record FirstIn (p : Frame → Bool) (l : List Frame) (n i : ℕ) : Type 0 wh
   pub inside : i ≤ n
   pub before : allOf (λ (g : Frame). not (p g)) (take i l) ≡ true
   pub here : i < n → allOf (λ (g : Frame). not (p g)) l ≡ false
+
+-- the rows from the first up to n are of one group
+abbrev pub OneGroup : List (List ℕ) → ℕ → ℕ → Type 0
+OneGroup gs first n = (j : ℕ) → first ≤ j → j < n → groupIn (getD gs j []) ≡ groupIn (getD gs first [])

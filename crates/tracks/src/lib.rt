@@ -2,9 +2,10 @@
 ghost use mathlib.Core.Path.{_≡_};
 ghost use mathlib.Core.Bool.{cond, true};
 ghost use mathlib.Core.List.{map, _++_};
-ghost use Prim.Native.Nat.{_≤_};
+ghost use Prim.Native.Nat.{_≤_, _<_};
 ghost use lib.ListN.{take, drop};
-ghost use Rattle.buffer_state.specs.Buffer.{restarted, withNeed, isSequence, startAtEnd, withEnd};
+ghost use Rattle.buffer_state.specs.Buffer.{restarted, withNeed, isSequence, startAtEnd, withEnd, nextGroup};
+ghost use Rattle.buffer_state.specs.Limits.{lastGroup};
 use buffer_state::Group;
 use buffer_state::Mode;
 use buffer_state::Track;
@@ -88,6 +89,7 @@ pub fn start_at_end(g: Group) -> Group
         begun: true,
         start: e,
         end: e,
+        number: g.number,
     }
 }
 
@@ -99,4 +101,15 @@ pub fn regroup(m: Mode, g: Group, p: i64) -> Group
         return start_at_end(g);
     }
     Group { end: p, ..g }
+}
+
+// The next group begins.
+pub fn next_group(g: Group) -> Group
+    requires { ⌜ g .number < lastGroup ⌝ }
+    ensures { λ r. ⌜ r ≡ nextGroup g ⌝ }
+{
+    Group {
+        number: g.number + 1,
+        ..g
+    }
 }

@@ -77,12 +77,12 @@ distinct-numbers ts gs e =
     (λ d. once-distinct (framesOf ts gs) (λ k. omega (arith, ap (occurrences k) same, once-each (numbersOf gs) d k)))
 
 -- none is zero
-no-zero : (tracks last : ℕ) (fs : List Frame) → allOf (goodFrame tracks last) fs ≡ true → occurrences 0 (map numberOf fs) ≡ 0
-no-zero tracks last [] e = occurs-none 0
-no-zero tracks last (f ∷ fs) e =
-    let g = frame-facts tracks last f (all-first (goodFrame tracks last) f fs e) in
-    occurs-later 0 (f .number) (map numberOf fs) (λ q. omega (arith, g .number-from, q)) ∙ no-zero tracks last fs (all-rest (goodFrame tracks last) f fs e)
+no-zero : (tracks last group : ℕ) (fs : List Frame) → allOf (goodFrame tracks last group) fs ≡ true → occurrences 0 (map numberOf fs) ≡ 0
+no-zero tracks last group [] e = occurs-none 0
+no-zero tracks last group (f ∷ fs) e =
+    let g = frame-facts tracks last group f (all-first (goodFrame tracks last group) f fs e) in
+    occurs-later 0 (f .number) (map numberOf fs) (λ q. omega (arith, g .number-from, q)) ∙ no-zero tracks last group fs (all-rest (goodFrame tracks last group) f fs e)
 
-pub numbers-from-one : (tracks last : ℕ) (ts : List (List ℤ)) (gs : List (List ℕ)) → length ts ≡ length gs
-    → allOf (goodFrame tracks last) (framesOf ts gs) ≡ true → occurrences 0 (numbersOf gs) ≡ 0
-numbers-from-one tracks last ts gs e g = ap (occurrences 0) (sym (frame-numbers ts gs e)) ∙ no-zero tracks last (framesOf ts gs) g
+pub numbers-from-one : (tracks last group : ℕ) (ts : List (List ℤ)) (gs : List (List ℕ)) → length ts ≡ length gs
+    → allOf (goodFrame tracks last group) (framesOf ts gs) ≡ true → occurrences 0 (numbersOf gs) ≡ 0
+numbers-from-one tracks last group ts gs e g = ap (occurrences 0) (sym (frame-numbers ts gs e)) ∙ no-zero tracks last group (framesOf ts gs) g

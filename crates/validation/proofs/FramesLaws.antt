@@ -17,7 +17,7 @@ use Rattle.buffer_state.specs.Limits.{places}
 use Rattle.buffer_state.specs.WellFormed.{allOf, zeroInt, goodFrame, sorted, distinctNumbers}
 use Rattle.numbers.specs.Numbers.{numbersOf, noRepeat}
 use Rattle.numbers.proofs.NumberLaws.{numbers-take}
-use Rattle.validation.specs.Tests.{placed, framesTest, isZeroTime, isZeroTag, rowsFrom}
+use Rattle.validation.specs.Tests.{framesTest, isZeroTime, isZeroTag, rowsFrom}
 use Rattle.validation.proofs.DistinctLaws.{distinct-numbers, numbers-from-one}
 use Rattle.validation.proofs.ExamineLaws.{zero-first, rows-frames}
 use Rattle.validation.proofs.PlaceLaws.{placed-parts}
@@ -57,22 +57,23 @@ flag-off x =
     (λ k. rw (k, e)))
 
 -- the order of the tests of a row of zeros
-zero-row : (t x y g a f d n : Bool) (l u : Bool) → (l && u) ≡ f
-    → ((t && (x && y)) && (g && ((a && f) && (d && n)))) ≡ (t && ((g && l) && (a && (u && (d && (n && (x && y)))))))
-zero-row false x y g a f d n l u e = refl
-zero-row true x y false a f d n l u e = and-false (x && y)
-zero-row true x y true false f d n false u e = and-false (x && y)
-zero-row true x y true false f d n true u e = and-false (x && y)
-zero-row true x y true true f d n false u e = rw (← e) (and-false (x && y))
-zero-row true x y true true f d n true false e = rw (← e) (and-false (x && y))
-zero-row true x y true true f false n true true e = rw (← e) (and-false (x && y))
-zero-row true x y true true f true false true true e = rw (← e) (and-false (x && y))
-zero-row true x y true true f true true true true e = rw (← e) (and-true (x && y))
+zero-row : (t x y g a f d n k : Bool) (l u : Bool) → (l && u) ≡ f
+    → ((t && (x && y)) && (g && (((a && f) && (d && n)) && k))) ≡ (t && ((g && l) && (a && (u && (d && (n && (k && (x && y))))))))
+zero-row false x y g a f d n k l u e = refl
+zero-row true x y false a f d n k l u e = and-false (x && y)
+zero-row true x y true false f d n k false u e = and-false (x && y)
+zero-row true x y true false f d n k true u e = and-false (x && y)
+zero-row true x y true true f d n k false u e = rw (← e) (and-false (x && y))
+zero-row true x y true true f d n k true false e = rw (← e) (and-false (x && y))
+zero-row true x y true true f false n k true true e = rw (← e) (and-false (x && y))
+zero-row true x y true true f true false k true true e = rw (← e) (and-false (x && y))
+zero-row true x y true true f true true false true true e = rw (← e) (and-false (x && y))
+zero-row true x y true true f true true true true true e = rw (← e) (and-true (x && y))
 
 zero-both : (t : List ℤ) (g : List ℕ) → (isZeroTime t && isZeroTag g) ≡ (plainTime t && (plainTag g && isZeroFrame (frameOf t g)))
 zero-both t g =
-    zero-row (eqb (length t) 2) (zeroInt (getD t 0 (pos 0))) (zeroInt (getD t 1 (pos 0))) (eqb (length g) 4) (eqb (getD g 0 0) 0) (eqb (getD g 1 0) 0) (eqb (getD g 2 0) 0)
-    (eqb (getD g 3 0) 0) (leb (getD g 1 0) 1) (not (eqb (getD g 1 0) 1)) (flag-off (getD g 1 0))
+    zero-row (eqb (length t) 2) (zeroInt (getD t 0 (pos 0))) (zeroInt (getD t 1 (pos 0))) (eqb (length g) 5) (eqb (getD g 0 0) 0) (eqb (getD g 1 0) 0) (eqb (getD g 2 0) 0)
+    (eqb (getD g 3 0) 0) (eqb (getD g 4 0) 0) (leb (getD g 1 0) 1) (not (eqb (getD g 1 0) 1)) (flag-off (getD g 1 0))
 
 -- one row more
 zeros-mixed : (a b a′ b′ p q z p′ q′ z′ : Bool) → (a && b) ≡ (p && (q && z)) → (a′ && b′) ≡ (p′ && (q′ && z′))
@@ -107,7 +108,7 @@ ordered true true false true f true s d = refl
 ordered true true true true false true s d = refl
 ordered true true true true true true s d = refl
 
-module _ (n tracks last : ℕ) (ts : List (List ℤ)) (gs : List (List ℕ)) (k : Lengths ts gs) (few : n ≤ places) where
+module _ (n tracks last group : ℕ) (ts : List (List ℤ)) (gs : List (List ℕ)) (k : Lengths ts gs) (few : n ≤ places) where
   same-take : length (take n ts) ≡ length (take n gs)
   same-take = rw (length-take, length-take, k .0, k .1)
 
@@ -118,17 +119,17 @@ module _ (n tracks last : ℕ) (ts : List (List ℤ)) (gs : List (List ℕ)) (k 
   same-all = k .0 ∙ sym (k .1)
 
   -- what a pass over the rows in use says
-  in-use : rowsFrom tracks last zeroFrame (take n ts) (take n gs)
-      ≡ (allOf plainTime (take n ts) && (allOf plainTag (take n gs) && (allOf (goodFrame tracks last) (take n (framesOf ts gs)) && sorted (take n (framesOf ts gs)))))
+  in-use : rowsFrom tracks last group zeroFrame (take n ts) (take n gs)
+      ≡ (allOf plainTime (take n ts) && (allOf plainTag (take n gs) && (allOf (goodFrame tracks last group) (take n (framesOf ts gs)) && sorted (take n (framesOf ts gs)))))
   in-use =
       let fs = framesOf (take n ts) (take n gs) in
-      let first : (allOf (goodFrame tracks last) fs && sorted (zeroFrame ∷ fs)) ≡ (allOf (goodFrame tracks last) fs && sorted fs) =
-      split (allOf (goodFrame tracks last) fs) (λ e. rw (e, zero-first tracks last fs e)) (λ e. rw e) in
-      rows-frames tracks last zeroFrame (take n ts) (take n gs) same-take
+      let first : (allOf (goodFrame tracks last group) fs && sorted (zeroFrame ∷ fs)) ≡ (allOf (goodFrame tracks last group) fs && sorted fs) =
+      split (allOf (goodFrame tracks last group) fs) (λ e. rw (e, zero-first tracks last group fs e)) (λ e. rw e) in
+      rows-frames tracks last group zeroFrame (take n ts) (take n gs) same-take
       ∙ rw (frames-take n ts gs) (ap (λ (b : Bool). allOf plainTime (take n ts) && (allOf plainTag (take n gs) && b)) first)
 
-  pub frames-whole : framesTest n tracks last ts gs
-      ≡ ((allOf isZeroTime (drop n ts) && allOf isZeroTag (drop n gs)) && (rowsFrom tracks last zeroFrame (take n ts) (take n gs) && noRepeat (take n (numbersOf gs))))
+  pub frames-whole : framesTest n tracks last group ts gs
+      ≡ ((allOf isZeroTime (drop n ts) && allOf isZeroTag (drop n gs)) && (rowsFrom tracks last group zeroFrame (take n ts) (take n gs) && noRepeat (take n (numbersOf gs))))
   unfolding framesTest
   frames-whole =
       let fs = framesOf ts gs in
@@ -136,13 +137,13 @@ module _ (n tracks last : ℕ) (ts : List (List ℤ)) (gs : List (List ℕ)) (k 
       ap distinctNumbers (frames-take n ts gs) ∙ distinct-numbers (take n ts) (take n gs) same-take ∙ ap noRepeat (numbers-take n gs) in
       let z : (allOf isZeroTime (drop n ts) && allOf isZeroTag (drop n gs)) ≡ (allOf plainTime (drop n ts) && (allOf plainTag (drop n gs) && allOf isZeroFrame (drop n fs))) =
       zeros-frames (drop n ts) (drop n gs) same-drop ∙ rw (frames-drop n ts gs same-all) in
-      rw (all-parts plainTime n ts, all-parts plainTag n gs, placed-parts (goodFrame tracks last) isZeroFrame n fs, d, z, in-use)
+      rw (all-parts plainTime n ts, all-parts plainTag n gs, placed-parts (goodFrame tracks last group) isZeroFrame n fs, d, z, in-use)
       (ordered (allOf plainTime (take n ts)) (allOf plainTime (drop n ts)) (allOf plainTag (take n gs)) (allOf plainTag (drop n gs))
-      (allOf (goodFrame tracks last) (take n fs)) (allOf isZeroFrame (drop n fs)) (sorted (take n fs)) (noRepeat (take n (numbersOf gs))))
+      (allOf (goodFrame tracks last group) (take n fs)) (allOf isZeroFrame (drop n fs)) (sorted (take n fs)) (noRepeat (take n (numbersOf gs))))
 
   -- the numbers of good rows are from 1
-  pub rows-numbers : rowsFrom tracks last zeroFrame (take n ts) (take n gs) ≡ true → occurrences 0 (take n (numbersOf gs)) ≡ 0
+  pub rows-numbers : rowsFrom tracks last group zeroFrame (take n ts) (take n gs) ≡ true → occurrences 0 (take n (numbersOf gs)) ≡ 0
   rows-numbers e =
-      let all = rw (rows-frames tracks last zeroFrame (take n ts) (take n gs) same-take) at e in
+      let all = rw (rows-frames tracks last group zeroFrame (take n ts) (take n gs) same-take) at e in
       ap (occurrences 0) (sym (numbers-take n gs))
-      ∙ numbers-from-one tracks last (take n ts) (take n gs) same-take (and-left _ _ (and-right (allOf plainTag (take n gs)) _ (and-right (allOf plainTime (take n ts)) _ all)))
+      ∙ numbers-from-one tracks last group (take n ts) (take n gs) same-take (and-left _ _ (and-right (allOf plainTag (take n gs)) _ (and-right (allOf plainTime (take n ts)) _ all)))

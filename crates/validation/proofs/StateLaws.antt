@@ -41,7 +41,7 @@ module _ (s : State) (frames : length (s .frames) ≡ places) (tracks : length (
 
   pub whole : s .nframes ≤ places → s .ntracks ≤ 4 → 1 ≤ s .ntracks → s .last ≤ 4294967295
       → (placed goodTrack isZeroTrack (s .ntracks) (s .tracks)
-      && (((placed (goodFrame (s .ntracks) (s .last)) isZeroFrame (s .nframes) (s .frames) && sorted (take (s .nframes) (s .frames))) && distinctNumbers (take (s .nframes) (s .frames))) && (goodGroup (s .group) && goodSettings (s .settings))))
+      && (((placed (goodFrame (s .ntracks) (s .last) (s .group .number)) isZeroFrame (s .nframes) (s .frames) && sorted (take (s .nframes) (s .frames))) && distinctNumbers (take (s .nframes) (s .frames))) && (goodGroup (s .group) && goodSettings (s .settings))))
       ≡ wellFormed s
   unfolding wellFormed laidOut goodBuffer goodTracks goodFrames
   whole n m some last =
@@ -57,9 +57,9 @@ module _ (s : State) (frames : length (s .frames) ≡ places) (tracks : length (
         le-leb 1 (s .ntracks) some,
         le-leb (s .ntracks) 4 m,
         le-leb (s .nframes) places n,
-        placed-parts (goodFrame (s .ntracks) (s .last)) isZeroFrame,
+        placed-parts (goodFrame (s .ntracks) (s .last) (s .group .number)) isZeroFrame,
         placed-parts goodTrack isZeroTrack,
       )
-      (sym (reordered (allOf (goodFrame (s .ntracks) (s .last)) stored) (allOf isZeroFrame (drop (s .nframes) (s .frames)))
+      (sym (reordered (allOf (goodFrame (s .ntracks) (s .last) (s .group .number)) stored) (allOf isZeroFrame (drop (s .nframes) (s .frames)))
       (allOf goodTrack (take (s .ntracks) (s .tracks))) (allOf isZeroTrack (drop (s .ntracks) (s .tracks)))
       (sorted stored) (distinctNumbers stored) (goodGroup (s .group) && goodSettings (s .settings))))

@@ -42,7 +42,7 @@ module _ (h : Head) (ts : List (List ℤ)) (gs : List (List ℕ)) (k : Lengths t
   pub too-many : places < h .nframes → wellFormedAt h ts gs ≡ false
   too-many m = ill (too-many-frames (stateAt h ts gs) all full m)
 
-  pub well-formed-parts : h .nframes ≤ places → h .last ≤ 4294967295 → wellFormedAt h ts gs ≡ (headTest h && framesTest (h .nframes) (h .ntracks) (h .last) ts gs)
+  pub well-formed-parts : h .nframes ≤ places → h .last ≤ 4294967295 → wellFormedAt h ts gs ≡ (headTest h && framesTest (h .nframes) (h .ntracks) (h .last) (h .group .number) ts gs)
   unfolding wellFormedAt headTest framesTest
   well-formed-parts few last =
       let s = stateAt h ts gs in
@@ -53,7 +53,7 @@ module _ (h : Head) (ts : List (List ℤ)) (gs : List (List ℕ)) (k : Lengths t
       (λ a.
       rw (long, a, b, ← whole s all full few m (leb-true 1 (h .ntracks) a) last)
       (reordered (allOf plainTime ts) (allOf plainTag gs) (placed goodTrack isZeroTrack (h .ntracks) (h .tracks))
-      (placed (goodFrame (h .ntracks) (h .last)) isZeroFrame (h .nframes) (framesOf ts gs) && sorted (take (h .nframes) (framesOf ts gs))) (distinctNumbers (take (h .nframes) (framesOf ts gs)))
+      (placed (goodFrame (h .ntracks) (h .last) (h .group .number)) isZeroFrame (h .nframes) (framesOf ts gs) && sorted (take (h .nframes) (framesOf ts gs))) (distinctNumbers (take (h .nframes) (framesOf ts gs)))
       (goodGroup (h .group) && goodSettings (h .settings))))
       (λ a. rw a (ill (no-tracks s all full m (leb-false 1 (h .ntracks) a)))))
       (λ b. rw (b, and-false (leb 1 (h .ntracks))) (ill (too-many-tracks s all full few (leb-false (h .ntracks) 4 b))))

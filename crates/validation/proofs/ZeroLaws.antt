@@ -78,23 +78,29 @@ module _ (ts : List (List ℤ)) (i : ℕ) (h : i < length ts) (k : length (getD 
       ∙ and-assoc (eqb a 0 && eqb b 0) (zeroInt x && zeroInt y) rest
       ∙ ap (λ (p : Bool). (eqb a 0 && eqb b 0) && p) (sym (all-at isZeroTime ts i [] h ∙ ap (λ (p : Bool). (p && (zeroInt x && zeroInt y)) && rest) (eq-eqb (length t) 2 k)))
 
-module _ (gs : List (List ℕ)) (i : ℕ) (h : i < length gs) (k : length (getD gs i []) ≡ 4) (a b c d : ℕ) where
-  pub tags-turn : (((eqb (bitOr a (getD (getD gs i []) 0 0)) 0 && eqb (bitOr b (getD (getD gs i []) 1 0)) 0)
-      && (eqb (bitOr c (getD (getD gs i []) 2 0)) 0 && eqb (bitOr d (getD (getD gs i []) 3 0)) 0)) && allOf isZeroTag (drop (i + 1) gs))
-      ≡ (((eqb a 0 && eqb b 0) && (eqb c 0 && eqb d 0)) && allOf isZeroTag (drop i gs))
+module _ (gs : List (List ℕ)) (i : ℕ) (h : i < length gs) (k : length (getD gs i []) ≡ 5) (a b c d e : ℕ) where
+  pub tags-turn : ((((eqb (bitOr a (getD (getD gs i []) 0 0)) 0 && eqb (bitOr b (getD (getD gs i []) 1 0)) 0)
+      && (eqb (bitOr c (getD (getD gs i []) 2 0)) 0 && eqb (bitOr d (getD (getD gs i []) 3 0)) 0))
+      && eqb (bitOr e (getD (getD gs i []) 4 0)) 0) && allOf isZeroTag (drop (i + 1) gs))
+      ≡ ((((eqb a 0 && eqb b 0) && (eqb c 0 && eqb d 0)) && eqb e 0) && allOf isZeroTag (drop i gs))
   tags-turn =
       let g = getD gs i [] in
-      let w = eqb (getD g 0 0) 0 in
-      let x = eqb (getD g 1 0) 0 in
-      let y = eqb (getD g 2 0) 0 in
-      let z = eqb (getD g 3 0) 0 in
+      let v = eqb (getD g 0 0) 0 in
+      let w = eqb (getD g 1 0) 0 in
+      let x = eqb (getD g 2 0) 0 in
+      let y = eqb (getD g 3 0) 0 in
+      let z = eqb (getD g 4 0) 0 in
       let rest = allOf isZeroTag (drop (i + 1) gs) in
-      let so = (eqb a 0 && eqb b 0) && (eqb c 0 && eqb d 0) in
-      let now = (w && x) && (y && z) in
-      let columns : ((eqb (bitOr a (getD g 0 0)) 0 && eqb (bitOr b (getD g 1 0)) 0) && (eqb (bitOr c (getD g 2 0)) 0 && eqb (bitOr d (getD g 3 0)) 0)) ≡ (so && now) =
+      let four = (eqb a 0 && eqb b 0) && (eqb c 0 && eqb d 0) in
+      let so = four && eqb e 0 in
+      let now = ((v && w) && (x && y)) && z in
+      let columns : (((eqb (bitOr a (getD g 0 0)) 0 && eqb (bitOr b (getD g 1 0)) 0) && (eqb (bitOr c (getD g 2 0)) 0 && eqb (bitOr d (getD g 3 0)) 0)) && eqb (bitOr e (getD g 4 0)) 0) ≡ (so && now) =
       ap₂ (λ (p q : Bool). p && q)
-      (ap₂ (λ (p q : Bool). p && q) (or-none a (getD g 0 0)) (or-none b (getD g 1 0)) ∙ swap (eqb a 0) w (eqb b 0) x)
-      (ap₂ (λ (p q : Bool). p && q) (or-none c (getD g 2 0)) (or-none d (getD g 3 0)) ∙ swap (eqb c 0) y (eqb d 0) z)
-      ∙ swap (eqb a 0 && eqb b 0) (w && x) (eqb c 0 && eqb d 0) (y && z) in
+      (ap₂ (λ (p q : Bool). p && q)
+      (ap₂ (λ (p q : Bool). p && q) (or-none a (getD g 0 0)) (or-none b (getD g 1 0)) ∙ swap (eqb a 0) v (eqb b 0) w)
+      (ap₂ (λ (p q : Bool). p && q) (or-none c (getD g 2 0)) (or-none d (getD g 3 0)) ∙ swap (eqb c 0) x (eqb d 0) y)
+      ∙ swap (eqb a 0 && eqb b 0) (v && w) (eqb c 0 && eqb d 0) (x && y))
+      (or-none e (getD g 4 0))
+      ∙ swap four ((v && w) && (x && y)) (eqb e 0) z in
       ap (λ (p : Bool). p && rest) columns ∙ and-assoc so now rest
-      ∙ ap (λ (p : Bool). so && p) (sym (all-at isZeroTag gs i [] h ∙ ap (λ (p : Bool). (p && now) && rest) (eq-eqb (length g) 4 k)))
+      ∙ ap (λ (p : Bool). so && p) (sym (all-at isZeroTag gs i [] h ∙ ap (λ (p : Bool). (p && now) && rest) (eq-eqb (length g) 5 k)))

@@ -26,25 +26,26 @@ headTest h =
     (leb 1 (h .ntracks) && leb (h .ntracks) mostTracks)
     && (placed goodTrack isZeroTrack (h .ntracks) (h .tracks) && (goodGroup (h .group) && goodSettings (h .settings)))
 
-unfoldable pub framesTest : ℕ → ℕ → ℕ → List (List ℤ) → List (List ℕ) → Bool
-framesTest n tracks last ts gs =
+unfoldable pub framesTest : ℕ → ℕ → ℕ → ℕ → List (List ℤ) → List (List ℕ) → Bool
+framesTest n tracks last group ts gs =
     allOf plainTime ts
     && (allOf plainTag gs
-    && ((placed (goodFrame tracks last) isZeroFrame n (framesOf ts gs) && sorted (take n (framesOf ts gs))) && distinctNumbers (take n (framesOf ts gs))))
+    && ((placed (goodFrame tracks last group) isZeroFrame n (framesOf ts gs) && sorted (take n (framesOf ts gs))) && distinctNumbers (take n (framesOf ts gs))))
 
 -- rows of zeros
 abbrev pub isZeroTime : List ℤ → Bool
 isZeroTime t = eqb (length t) 2 && (zeroInt (getD t 0 (pos 0)) && zeroInt (getD t 1 (pos 0)))
 
 abbrev pub isZeroTag : List ℕ → Bool
-isZeroTag g = eqb (length g) 4 && ((eqb (getD g 0 0) 0 && eqb (getD g 1 0) 0) && (eqb (getD g 2 0) 0 && eqb (getD g 3 0) 0))
+isZeroTag g =
+    eqb (length g) 5 && (((eqb (getD g 0 0) 0 && eqb (getD g 1 0) 0) && (eqb (getD g 2 0) 0 && eqb (getD g 3 0) 0)) && eqb (getD g 4 0) 0)
 
 -- a row in use
-unfoldable pub goodRow : ℕ → ℕ → List ℤ → List ℕ → Bool
-goodRow tracks last t g = (plainTime t && plainTag g) && goodFrame tracks last (frameOf t g)
+unfoldable pub goodRow : ℕ → ℕ → ℕ → List ℤ → List ℕ → Bool
+goodRow tracks last group t g = (plainTime t && plainTag g) && goodFrame tracks last group (frameOf t g)
 
 -- rows in use, each after the one before it, the first after p
-unfoldable pub rowsFrom : ℕ → ℕ → Frame → List (List ℤ) → List (List ℕ) → Bool
-rowsFrom tracks last p [] gs = true
-rowsFrom tracks last p (t ∷ ts) [] = true
-rowsFrom tracks last p (t ∷ ts) (g ∷ gs) = (goodRow tracks last t g && before p (frameOf t g)) && rowsFrom tracks last (frameOf t g) ts gs
+unfoldable pub rowsFrom : ℕ → ℕ → ℕ → Frame → List (List ℤ) → List (List ℕ) → Bool
+rowsFrom tracks last group p [] gs = true
+rowsFrom tracks last group p (t ∷ ts) [] = true
+rowsFrom tracks last group p (t ∷ ts) (g ∷ gs) = (goodRow tracks last group t g && before p (frameOf t g)) && rowsFrom tracks last group (frameOf t g) ts gs

@@ -174,8 +174,8 @@ fn two(time: [i64; 2])
     ensures { λ r. ⌜ length time ≡ 2 ⌝ }
 {}
 
-fn four(tag: [u32; 4])
-    ensures { λ r. ⌜ length tag ≡ 4 ⌝ }
+fn five(tag: [u32; 5])
+    ensures { λ r. ⌜ length tag ≡ 5 ⌝ }
 {}
 
 // ---- zeros past the count
@@ -198,7 +198,7 @@ fn no_times(times: &[[i64; 2]], n: usize) -> bool
     (a | b) == 0
 }
 
-fn no_tags(tags: &[[u32; 4]], n: usize) -> bool
+fn no_tags(tags: &[[u32; 5]], n: usize) -> bool
     requires { ⌜ n ≤ length (now tags) ⌝ }
     ensures { λ r. ⌜ r ≡ allOf isZeroTag (drop n (now (tags .entry))) ⌝ }
 {
@@ -206,23 +206,25 @@ fn no_tags(tags: &[[u32; 4]], n: usize) -> bool
     let mut b: u32 = 0;
     let mut c: u32 = 0;
     let mut d: u32 = 0;
+    let mut e: u32 = 0;
     let mut i = n;
     while i < tags.len() {
         let t = tags[i];
-        four(t);
+        five(t);
         a = a | t[0];
         b = b | t[1];
         c = c | t[2];
         d = d | t[3];
+        e = e | t[4];
         i += 1;
     }
-    ((a | b) | (c | d)) == 0
+    (((a | b) | (c | d)) | e) == 0
 }
 
 // ---- a row in use
 
 // The flag is 0 or 1.
-fn plain_rows(time: [i64; 2], tag: [u32; 4]) -> bool
+fn plain_rows(time: [i64; 2], tag: [u32; 5]) -> bool
     ensures { λ r. ⌜ r ≡ (plainTime time && plainTag tag) ⌝ }
 {
     tag[1] <= 1
@@ -243,13 +245,16 @@ fn good_span(f: Frame) -> bool
 }
 
 // Each test leaves at once where it fails: branches that are never taken cost less than bits that are gathered.
-fn good_frame(f: Frame, tracks: u32, last: u32) -> bool
-    ensures { λ r. ⌜ r ≡ goodFrame tracks last f ⌝ }
+fn good_frame(f: Frame, tracks: u32, last: u32, group: u32) -> bool
+    ensures { λ r. ⌜ r ≡ goodFrame tracks last group f ⌝ }
 {
     if !((1 <= f.track) & (f.track <= tracks)) {
         return false;
     }
     if !((1 <= f.number) & (f.number <= last)) {
+        return false;
+    }
+    if group < f.group {
         return false;
     }
     if !limits::good_duration(f.duration) {
@@ -261,17 +266,17 @@ fn good_frame(f: Frame, tracks: u32, last: u32) -> bool
     good_span(f)
 }
 
-fn good_row(time: [i64; 2], tag: [u32; 4], tracks: u32, last: u32) -> bool
-    ensures { λ r. ⌜ r ≡ goodRow tracks last time tag ⌝ }
+fn good_row(time: [i64; 2], tag: [u32; 5], tracks: u32, last: u32, group: u32) -> bool
+    ensures { λ r. ⌜ r ≡ goodRow tracks last group time tag ⌝ }
 {
     if !plain_rows(time, tag) {
         return false;
     }
-    good_frame(places::frame_of(time, tag), tracks, last)
+    good_frame(places::frame_of(time, tag), tracks, last, group)
 }
 
 // Whether one row comes before another in store order.
-fn row_before(time: [i64; 2], tag: [u32; 4], next: [i64; 2], mark: [u32; 4]) -> bool
+fn row_before(time: [i64; 2], tag: [u32; 5], next: [i64; 2], mark: [u32; 5]) -> bool
     ensures { λ r. ⌜ r ≡ before (frameOf time tag) (frameOf next mark) ⌝ }
 {
     places::frame_before(places::frame_of(time, tag), places::frame_of(next, mark))
@@ -295,9 +300,16 @@ fn faulty() -> Examined
 }
 
 // Whether the rows in use are good and in store order. The row before is read again: to carry its numbers costs registers.
-fn examine(times: &[[i64; 2]], tags: &[[u32; 4]], n: usize, tracks: u32, last: u32) -> Examined
+fn examine(
+    times: &[[i64; 2]],
+    tags: &[[u32; 5]],
+    n: usize,
+    tracks: u32,
+    last: u32,
+    group: u32,
+) -> Examined
     requires { ⌜ (n ≤ length (now times)) × (n ≤ length (now tags)) ⌝ }
-    ensures { λ r. ⌜ r .good ≡ rowsFrom tracks last zeroFrame (take n (now (times .entry))) (take n (now (tags .entry))) ⌝ }
+    ensures { λ r. ⌜ r .good ≡ rowsFrom tracks last group zeroFrame (take n (now (times .entry))) (take n (now (tags .entry))) ⌝ }
     ensures { λ r. ⌜ (r .rising ≡ true → following ltb 0 (numbersOf (take n (now (tags .entry)))) ≡ true) ⌝ }
 {
     if n == 0 {
@@ -308,7 +320,7 @@ fn examine(times: &[[i64; 2]], tags: &[[u32; 4]], n: usize, tracks: u32, last: u
     }
     let first = times[0];
     let mark = tags[0];
-    if !good_row(first, mark, tracks, last) {
+    if !good_row(first, mark, tracks, last, group) {
         return faulty();
     }
     let mut rising = true;
@@ -316,7 +328,7 @@ fn examine(times: &[[i64; 2]], tags: &[[u32; 4]], n: usize, tracks: u32, last: u
     while i < n {
         let time = times[i];
         let tag = tags[i];
-        if !good_row(time, tag, tracks, last) {
+        if !good_row(time, tag, tracks, last, group) {
             return faulty();
         }
         let j = i - 1;
@@ -336,9 +348,16 @@ fn examine(times: &[[i64; 2]], tags: &[[u32; 4]], n: usize, tracks: u32, last: u
 
 // ---- the whole
 
-fn good_frames(times: &[[i64; 2]], tags: &[[u32; 4]], n: usize, tracks: u32, last: u32) -> bool
+fn good_frames(
+    times: &[[i64; 2]],
+    tags: &[[u32; 5]],
+    n: usize,
+    tracks: u32,
+    last: u32,
+    group: u32,
+) -> bool
     requires { ⌜ (n ≤ places) × Lengths (now times) (now tags) ⌝ }
-    ensures { λ r. ⌜ r ≡ framesTest n tracks last (now (times .entry)) (now (tags .entry)) ⌝ }
+    ensures { λ r. ⌜ r ≡ framesTest n tracks last group (now (times .entry)) (now (tags .entry)) ⌝ }
 {
     if !no_times(times, n) {
         return false;
@@ -346,7 +365,7 @@ fn good_frames(times: &[[i64; 2]], tags: &[[u32; 4]], n: usize, tracks: u32, las
     if !no_tags(tags, n) {
         return false;
     }
-    let found = examine(times, tags, n, tracks, last);
+    let found = examine(times, tags, n, tracks, last, group);
     if !found.good {
         return false;
     }
@@ -357,7 +376,7 @@ fn good_frames(times: &[[i64; 2]], tags: &[[u32; 4]], n: usize, tracks: u32, las
 }
 
 // For a caller that holds slices.
-pub fn is_well_formed(h: Head, times: &[[i64; 2]], tags: &[[u32; 4]]) -> bool
+pub fn is_well_formed(h: Head, times: &[[i64; 2]], tags: &[[u32; 5]]) -> bool
     requires { ⌜ Lengths (now times) (now tags) ⌝ }
     ensures { λ r. ⌜ r ≡ wellFormedAt h (now (times .entry)) (now (tags .entry)) ⌝ }
 {
@@ -370,7 +389,8 @@ pub fn is_well_formed(h: Head, times: &[[i64; 2]], tags: &[[u32; 4]]) -> bool
     }
     let tracks = h.ntracks as u32;
     let last = h.last;
-    good_frames(times, tags, n, tracks, last)
+    let group = h.group.number;
+    good_frames(times, tags, n, tracks, last, group)
 }
 
 // The test with which every call on a state begins.

@@ -44,7 +44,7 @@ impl Kept {
         let count = self.buffer.head.nframes.min(PLACES);
         let rows = self.buffer.tags.iter().zip(&self.buffer.times);
         rows.take(count)
-            .map(|(&[track, _, _, number], &[pts, _])| Stored { track, number, pts })
+            .map(|(&[track, _, _, number, _], &[pts, _])| Stored { track, number, pts })
             .collect()
     }
 

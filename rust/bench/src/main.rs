@@ -3,12 +3,14 @@
 //! Prints the tables of `docs/PERFORMANCE.md`: the time of a call in microseconds, the median of
 //! several rounds. The two take turns within a round, so that a busy moment hits both.
 //!
-//! `bench --reports` times the reports of long lines alone. `bench --write-segments FOLDER` times
-//! nothing and writes the segments that are timed into files.
+//! `bench --reports` times the reports of long lines alone, `bench --groups` the walks by group.
+//! `bench --write-segments FOLDER` times nothing and writes the segments that are timed into files.
 
 #![forbid(unsafe_code)]
 
 mod files;
+mod grouping;
+mod groups;
 mod line;
 mod measure;
 mod reports;
@@ -30,7 +32,12 @@ fn main() -> ExitCode {
     match words.iter().map(String::as_str).collect::<Vec<_>>()[..] {
         [] => {
             println!("{}", table::report(&mut proved, &mut second));
-            print!("{}", reports::report(&mut proved, &mut second));
+            println!("{}", reports::report(&mut proved, &mut second));
+            print!("{}", groups::report(&mut proved, &mut second));
+            ExitCode::SUCCESS
+        }
+        ["--groups"] => {
+            print!("{}", groups::report(&mut proved, &mut second));
             ExitCode::SUCCESS
         }
         ["--reports"] => {
@@ -45,7 +52,7 @@ fn main() -> ExitCode {
             }
         },
         _ => {
-            eprintln!("usage: bench [--reports | --write-segments FOLDER]");
+            eprintln!("usage: bench [--reports | --groups | --write-segments FOLDER]");
             ExitCode::FAILURE
         }
     }

@@ -3,9 +3,10 @@
 use std::hint::black_box;
 use std::time::Instant;
 
-use script::{row_of, Place, Subject};
+use script::{row_of, FrameField, Place, Poke, Subject};
 use second::{Mode, Offered, BATCH_FRAMES, BATCH_LINES, FRAME_PLACES};
 
+use crate::grouping::Grouping;
 use crate::line::Line;
 use crate::segment::{segment, TRACK};
 
@@ -47,6 +48,20 @@ pub enum Case {
     Frames(Way, u32),
     /// A report of a line, into so many places, on a buffer that holds so many frames.
     Report(Report, Line, usize, usize),
+    /// A call on a store of 1,023 frames of some groups, with a random access point each so many of
+    /// them, by which so many go.
+    Walk(Walk, Grouping, usize, usize),
+}
+
+/// A call that may walk through groups.
+#[derive(Clone, Copy, Debug, PartialEq, Eq)]
+pub enum Walk {
+    /// A random access point after the last.
+    After,
+    /// A random access point over the second frame.
+    Over,
+    /// The oldest second goes.
+    Remove,
 }
 
 /// A report of a line.
@@ -277,6 +292,55 @@ impl<S: Subject> Runner<S> {
         median((0..CALLS).map(|_| time()).collect())
     }
 
+    /// The median time of a call on a store of groups, each on a copy of the same state.
+    fn walk(&mut self, walk: Walk, grouping: Grouping, points: usize, lines: usize) -> f64 {
+        let frame = |number| grouped(1, number, points as i64);
+        let held = self.in_groups(FRAME_PLACES - 1, frame, grouping);
+        let offered = Offered {
+            flagged: true,
+            ..frame(match walk {
+                Walk::Over => 1,
+                _ => FRAME_PLACES - 1,
+            })
+        };
+        let mut state = held.clone();
+        let (subject, fates) = (&mut self.subject, &mut self.fates);
+        let mut time = || {
+            state.clone_from(&held);
+            let start = Instant::now();
+            let said = match walk {
+                Walk::After | Walk::Over => subject.append(black_box(&mut state), &offered, fates),
+                Walk::Remove => subject.remove(black_box(&mut state), 0.0, 1.0, fates),
+            };
+            black_box(&mut *fates);
+            let time = micros_since(start);
+            assert_eq!(said, Ok(lines), "frames that go");
+            time
+        };
+        median((0..CALLS).map(|_| time()).collect())
+    }
+
+    /// A buffer of one track with so many frames of some groups, to which nothing was appended since.
+    fn in_groups(
+        &mut self,
+        frames: usize,
+        frame: impl Fn(usize) -> Offered,
+        grouping: Grouping,
+    ) -> S::State {
+        let mut state = self.with_frames(1, (0..frames).map(frame));
+        self.subject.abort(&mut state).expect("an abort");
+        let groups = (0..frames).map(|place| {
+            let group = FrameField::Group(grouping.group(place).into());
+            Poke::Frame(place, group)
+        });
+        // At or above all of them, and not the last.
+        let current = Poke::Group(i64::from(u32::MAX) - 1);
+        for poke in groups.chain([current]) {
+            self.subject.poke(&mut state, &poke).expect("a group");
+        }
+        state
+    }
+
     /// The median time of listing a segment, into a list that has its places to spare.
     fn segment(&mut self, frames: u32) -> f64 {
         let segment = segment(frames);
@@ -304,6 +368,7 @@ impl<S: Subject> Measure for Runner<S> {
             Case::Segment(frames) => self.segment(frames),
             Case::Frames(way, tracks) => self.frames(way, tracks),
             Case::Report(report, line, places, frames) => self.report(report, line, places, frames),
+            Case::Walk(walk, grouping, points, lines) => self.walk(walk, grouping, points, lines),
         }
     }
 }

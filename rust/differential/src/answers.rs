@@ -1,7 +1,8 @@
 //! Counting what the answers say: accepted and refused calls, causes, the doubles handed in, what
-//! became of batches, and what the walks of reports met.
+//! became of batches, and what the walks of reports and calls in the last group met.
 
 mod batches;
+mod groups;
 mod walks;
 
 use std::collections::BTreeMap;
@@ -10,9 +11,11 @@ use std::fmt::Write;
 use script::Call;
 use second::{micros, SECONDS_LIMIT};
 
+use crate::last_group::LastGroup;
 use crate::told::fates;
 use crate::walk::Walk;
 use batches::Batches;
+use groups::Groups;
 use walks::Walks;
 
 /// A call of the paper, with the refusals and causes that it can give.
@@ -34,8 +37,8 @@ const ROWS: [Row; 14] = [
     row("create", &[11], &[]),
     row("append", &[1, 2, 3, 4, 9, 7, 8], &[1, 2, 3, 4, 5]),
     row("batch", &[1, 13, 2], &[1, 2, 3, 4, 5]),
-    row("remove", &[1, 2, 5, 6], &[5, 6]),
-    row("abort", &[1], &[]),
+    row("remove", &[1, 2, 5, 6, 9], &[5, 6]),
+    row("abort", &[1, 9], &[]),
     row("mode", &[1], &[]),
     row("offset", &[1, 5], &[]),
     row("window-start", &[1, 5, 6], &[]),
@@ -115,6 +118,7 @@ pub struct Answers {
     doubles: [u64; DOUBLES.len()],
     batches: Batches,
     walks: Walks,
+    groups: Groups,
     /// What a segment is answered whole, and what damaged: none for no refusal.
     damage: BTreeMap<[Option<u32>; 2], u64>,
 }
@@ -161,6 +165,11 @@ impl Answers {
     /// Counts a walk that was answered.
     pub(crate) fn walk(&mut self, walk: &Walk) {
         self.walks.count(walk);
+    }
+
+    /// Counts a call in the last group.
+    pub(crate) fn last_group(&mut self, call: &LastGroup) {
+        self.groups.count(call);
     }
 
     /// Counts what became of a segment by its damage.
@@ -217,6 +226,7 @@ impl Answers {
         gaps.extend(missed.map(|((name, _), _)| format!("seconds, {name}: never")));
         gaps.extend(self.batches.gaps());
         gaps.extend(self.walks.gaps());
+        gaps.extend(self.groups.gaps());
         let missed = DAMAGE
             .iter()
             .filter(|pair| !self.damage.contains_key(*pair));
@@ -251,6 +261,7 @@ impl Answers {
         }
         text.push_str(&self.batches.tables());
         text.push_str(&self.walks.table());
+        text.push_str(&self.groups.table());
         text.push_str("\n| Segment, whole | Damaged | Times |\n|---|---|---|\n");
         for ([whole, torn], times) in &self.damage {
             let _ = writeln!(text, "| {} | {} | {times} |", said(*whole), said(*torn));

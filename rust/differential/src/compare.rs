@@ -5,6 +5,7 @@ use second::State;
 
 use crate::account::Accounts;
 use crate::answers::Answers;
+use crate::last_group::LastGroup;
 use crate::parting::Parting;
 use crate::singles::Singles;
 use crate::walk::Walk;
@@ -67,6 +68,7 @@ impl<A: Subject, B: Subject> Pair<'_, A, B> {
             unmoved(&before, &after)?;
         }
         self.same_states(&after, answers)?;
+        as_in_the_last_group(call, &answer, &before, answers)?;
         if answer.starts_with("ok") {
             as_singles(call, &answer, &before, &after)?;
             self.as_walk(call, &answer, &after, answers)?;
@@ -164,6 +166,26 @@ impl<A: Subject, B: Subject> Pair<'_, A, B> {
             None => Ok(()),
         }
     }
+}
+
+/// A call in the last group that both answer alike is refused 9 exactly where it would begin a group
+/// and nothing but 8 refuses it, and else does what it does before that group.
+fn as_in_the_last_group(
+    call: &str,
+    answer: &str,
+    before: &[Option<State>; 2],
+    answers: &mut Answers,
+) -> Result<(), Words> {
+    let state = before[0].as_ref();
+    let Some(call) = state.and_then(|state| LastGroup::of(state, call, answer)) else {
+        return Ok(());
+    };
+    if answer != call.due() {
+        let due = format!("in the last group: {}", call.due());
+        return Err([answer.to_string(), due]);
+    }
+    answers.last_group(&call);
+    Ok(())
 }
 
 /// A batch that both answer alike has done what its frames do one by one.

@@ -44,13 +44,14 @@ fn parts(branch: Branch) -> &'static [Part] {
         Step1Segments | Step1Moves | Step1Same | OffsetLeaves | DecodeLeaves | EndLeaves
         | Step3Unset | Step4Drop | Step5Drop | Step6Drop | Step6Off | Step7Unset | Full
         | RoomFreed | Step7Takes | Step7None | Step9Last | Step9Before | Step9Equal
-        | Step9HighestSet | Step9GroupRaised => {
+        | Step9LastGroup | Step9HighestSet | Step9GroupRaised => {
             &[FirstPass, SecondPass, BatchFirstPass, BatchSecondPass]
         }
         BreakInSegments | BreakInSequence => &[FirstPass, BatchFirstPass, Removal],
-        Step8Takes | Step8Stops => &PARTS,
-        RemoveBegins | RemoveUnbounded | RemoveEdge | RemoveNoEdge | RemoveNone
-        | RemoveLosesTaken | RemoveLosesFollowing => &[Removal],
+        GroupsGone => &[SecondPass, BatchSecondPass],
+        Step8Takes | Step8Stops | Step8PastPoint | Step8NotCarried => &PARTS,
+        RemoveBegins | RemoveGroupsGone | RemoveUnbounded | RemoveEdge | RemoveNoEdge
+        | RemoveNone | RemoveLosesTaken | RemoveLosesFollowing => &[Removal],
     }
 }
 

@@ -46,7 +46,8 @@ const PAST_A_BYTE: u32 = 257;
 pub fn script(seed: u64) -> Vec<String> {
     let mut writer = Writer::new(seed);
     match seed % 100 {
-        0..=15 => mixed(&mut writer),
+        0..=11 => mixed(&mut writer),
+        12..=15 => groups(&mut writer),
         16..=18 => walks(&mut writer),
         19..=24 => batches(&mut writer),
         25..=39 => overlaps(&mut writer),
@@ -94,6 +95,32 @@ fn overlaps(writer: &mut Writer) {
             _ => writer.report(),
         }
     }
+}
+
+/// Groups whose frames stand among each other, and the last of them: step 8, and refusal 9.
+fn groups(writer: &mut Writer) {
+    writer.create_some();
+    if writer.rng.percent(50) {
+        let left = writer.rng.pick(&[0, 1, 1, 1, 2, 2, 3]);
+        writer.line(format!("poke group {}", u32::MAX - left));
+    }
+    for _ in 0..writer.rng.between(10, 60) {
+        match writer.rng.between(1, 20) {
+            1..=6 => writer.append_anywhere(),
+            7..=12 => writer.append_on(),
+            13..=14 => writer.line("abort"),
+            15..=16 => writer.remove(),
+            17 => remove_shown_later(writer),
+            18 => writer.batch_of_a_segment(),
+            19 => last_group(writer),
+            _ => writer.any_call(),
+        }
+    }
+}
+
+/// No group can follow from here.
+fn last_group(writer: &mut Writer) {
+    writer.line(format!("poke group {}", u32::MAX));
 }
 
 /// Lists of frames as segments have them, often over stretches that are there already.
@@ -286,6 +313,9 @@ fn result_limits(writer: &mut Writer) {
             let start = writer.rng.pick(&RESULTS);
             writer.line(format!("poke group-start {start}"));
         }
+        if writer.rng.percent(20) {
+            last_group(writer);
+        }
         for _ in 0..writer.rng.between(1, 6) {
             let track = writer.track();
             let pts = writer.rng.pick(&OFFERED);
@@ -387,7 +417,7 @@ fn poke(writer: &mut Writer) {
         false => writer.rng.between(1, TRACK_PLACES as i64) as u32,
     };
     let frame = writer.rng.between(1, 8);
-    match writer.rng.between(1, 30) {
+    match writer.rng.between(1, 33) {
         1 => {
             let last = writer.rng.pick(&[0, 1, 4, 20, u32::MAX]);
             writer.line(format!("poke last-number {last}"));
@@ -451,7 +481,18 @@ fn poke(writer: &mut Writer) {
             let number = writer.rng.pick(&[0, 1, 2, 3, 9, u32::MAX]);
             writer.line(format!("poke frame {frame} number {number}"));
         }
-        _ => writer.line("poke frame 1024 p 1"),
+        30..=31 => {
+            let group = writer.rng.pick(&[0, 1, 2, 3, 9, u32::MAX]);
+            writer.line(format!("poke frame {frame} group {group}"));
+        }
+        32 => {
+            let group = writer.rng.pick(&[0, 1, 5, 20, u32::MAX]);
+            writer.line(format!("poke group {group}"));
+        }
+        _ => {
+            let field = writer.rng.pick(&["p", "group"]);
+            writer.line(format!("poke frame 1024 {field} 1"));
+        }
     }
 }
 
@@ -557,7 +598,7 @@ fn refusals(writer: &mut Writer) {
                     "",
                     "append 1 0 0 100",
                     "mode both",
-                    "poke group 1",
+                    "poke group",
                 ]);
                 writer.line(line);
             }
@@ -591,6 +632,9 @@ fn full(writer: &mut Writer) {
     }
     if writer.rng.percent(40) {
         most_lines(writer);
+    }
+    if writer.rng.percent(30) {
+        last_group(writer);
     }
     let last = FRAME_PLACES as i64 / i64::from(tracks) * step;
     for _ in 0..writer.rng.between(10, 60) {

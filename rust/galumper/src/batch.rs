@@ -32,8 +32,9 @@ impl Buffer {
     ///
     /// It stops at the first frame that an append refuses, by [`Refusal::NoTrack`],
     /// [`Refusal::FrameLimits`], [`Refusal::LastNumber`], [`Refusal::ResultLimits`] or
-    /// [`Refusal::Full`]. That is no error: the frame alone changes nothing, the frames accepted
-    /// before it stay, and the rows from `accepted` on may be offered again.
+    /// [`Refusal::Full`], in the order of an append. That is no error: the frame alone changes
+    /// nothing, the frames accepted before it stay, and the rows from `accepted` on may be offered
+    /// again.
     ///
     /// Any row may be offered. A track that no `u32` holds is one that the buffer does not have, and
     /// such a duration is outside its limit, as is a flag that is neither 0 nor 1. The size is not

@@ -1,6 +1,8 @@
 //! The buffer as numbers, laid out as in `include/galumper.h`. Any numbers may stand in it: a
 //! buffer that is not well-formed has the call refused.
 
+use std::mem::{self, offset_of};
+
 use crate::names::Kind;
 
 /// The places of the store over all tracks.
@@ -13,8 +15,8 @@ pub const TRACKS: usize = 4;
 pub type Times = [[i64; 2]; PLACES];
 
 /// The other numbers of the stored frames: track, from 1; flag, 1 for a random access point;
-/// duration; and the frame's number, from 1.
-pub type Tags = [[u32; 4]; PLACES];
+/// duration; the frame's number, from 1; and the group in which it was stored, from 0.
+pub type Tags = [[u32; 5]; PLACES];
 
 /// A coded frame as offered to an append. Times are microseconds.
 #[repr(C)]
@@ -50,12 +52,15 @@ pub struct Track {
     pub end: i64,
 }
 
-/// Where the next group of frames starts, and the end of the group so far.
+/// Where the next group of frames starts, the number of the group, and its end so far.
 #[repr(C)]
 #[derive(Clone, Copy, Debug, Default, PartialEq, Eq)]
 pub struct Group {
     /// 1: the start is set.
-    pub begun: u64,
+    pub begun: u32,
+    /// The number, which the frames stored take: one more after each break, each abort, and each
+    /// removal that takes a track's last decode time.
+    pub number: u32,
     /// The start.
     pub start: i64,
     /// The end.
@@ -132,11 +137,14 @@ pub struct Buffer {
 /// The bytes of a buffer.
 pub const SIZE: usize = size_of::<Buffer>();
 
+/// The bytes of a buffer before version 0.6.0: its rows of tags had no group.
+pub const FORMER_SIZE: usize = SIZE - PLACES * 4;
+
 // No padding: each struct has the bytes of its numbers.
 const _: () = assert!(size_of::<Track>() == 1 + 1 + 2 + 4 + 2 * 8);
-const _: () = assert!(size_of::<Group>() == 3 * 8 && size_of::<Settings>() == 7 * 8);
+const _: () = assert!(size_of::<Group>() == 2 * 4 + 2 * 8 && size_of::<Settings>() == 7 * 8);
 const _: () = assert!(size_of::<Head>() == TRACKS * 24 + 2 * 8 + 2 * 4 + 24 + 56);
-const _: () = assert!(SIZE == size_of::<Head>() + PLACES * (2 * 8 + 4 * 4));
+const _: () = assert!(SIZE == size_of::<Head>() + PLACES * (2 * 8 + 5 * 4));
 
 impl Buffer {
     /// A zeroed buffer, made where it stays. It has no track, so that every call refuses it.
@@ -157,6 +165,26 @@ impl Buffer {
         let mut buffer = Self::zeroed();
         // SAFETY: any bytes are numbers, and the buffer has so many.
         unsafe { *std::ptr::from_mut(&mut *buffer).cast() = *bytes };
+        buffer
+    }
+
+    /// The buffer that was saved as these bytes before version 0.6.0, all of it in group 0. Any bytes
+    /// may be loaded, as by [`Buffer::from_bytes`].
+    pub fn from_former_bytes(bytes: &[u8; FORMER_SIZE]) -> Box<Self> {
+        let mut widened = vec![0; SIZE];
+        let (before, tags) = bytes.split_at(offset_of!(Self, tags));
+        widened[..before.len()].copy_from_slice(before);
+        let rows = widened[before.len()..].chunks_exact_mut(5 * 4);
+        for (row, former) in rows.zip(tags.chunks_exact(4 * 4)) {
+            row[..former.len()].copy_from_slice(former);
+        }
+        let mut buffer = Self::from_bytes(widened.first_chunk().expect("bytes of a buffer"));
+        // The number stands where `begun` had its upper half. What was not well-formed by that is
+        // not to become so.
+        let group = &mut buffer.head.group;
+        if mem::take(&mut group.number) != 0 {
+            group.begun = u32::MAX;
+        }
         buffer
     }
 }

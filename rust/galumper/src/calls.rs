@@ -56,8 +56,9 @@ impl Buffer {
     /// # Errors
     ///
     /// The first of these that applies: [`Refusal::IllFormed`], [`Refusal::ShortFates`],
-    /// [`Refusal::NoTrack`], [`Refusal::FrameLimits`], [`Refusal::LastNumber`],
-    /// [`Refusal::ResultLimits`], [`Refusal::Full`].
+    /// [`Refusal::NoTrack`], [`Refusal::FrameLimits`], [`Refusal::LastNumber`] for the frame's
+    /// number, [`Refusal::ResultLimits`], [`Refusal::LastNumber`] for the group that a frame begins
+    /// which breaks off from its track, [`Refusal::Full`].
     pub fn append(&mut self, offered: Offered, fates: &mut [Fate]) -> Result<usize, Refusal> {
         let Self { head, times, tags } = self;
         let (lines, length) = (fates.as_mut_ptr(), fates.len());
@@ -70,13 +71,13 @@ impl Buffer {
     /// Removes, on each track, the frames that begin from `start` up to the first random access
     /// point at or after `end` (in seconds), and the frames that depend on them; where there is no
     /// such point, or `end` is plus infinity, all from `start` on. Where a frame with its track's
-    /// last decode timestamp goes, every track waits for a random access point. Gives the count of
-    /// fate lines.
+    /// last decode timestamp goes, the next group begins, and every track waits for a random access
+    /// point. Gives the count of fate lines.
     ///
     /// # Errors
     ///
     /// The first of these that applies: [`Refusal::IllFormed`], [`Refusal::ShortFates`],
-    /// [`Refusal::Seconds`], [`Refusal::Order`].
+    /// [`Refusal::Seconds`], [`Refusal::Order`], [`Refusal::LastNumber`].
     pub fn remove(&mut self, start: f64, end: f64, fates: &mut [Fate]) -> Result<usize, Refusal> {
         let Self { head, times, tags } = self;
         let (lines, length) = (fates.as_mut_ptr(), fates.len());
@@ -86,12 +87,13 @@ impl Buffer {
         self.keep(answered)
     }
 
-    /// Aborts: every track waits for a random access point, the append window is from 0 on without
-    /// an end, and the timestamp offset stays.
+    /// Aborts: the next group begins, also where nothing was appended to this one, every track waits
+    /// for a random access point, the append window is from 0 on without an end, and the timestamp
+    /// offset stays.
     ///
     /// # Errors
     ///
-    /// [`Refusal::IllFormed`].
+    /// The first of these that applies: [`Refusal::IllFormed`], [`Refusal::LastNumber`].
     pub fn abort(&mut self) -> Result<(), Refusal> {
         let Self { head, times, tags } = self;
         // SAFETY: the function takes numbers, and reads the arrays.

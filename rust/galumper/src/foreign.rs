@@ -7,7 +7,7 @@ use crate::lists::{Fate, Range};
 use crate::names::Kind;
 
 /// The number of the layout and of the functions below; the library has its own to compare.
-pub const ABI: u32 = 5;
+pub const ABI: u32 = 6;
 
 /// What a call answers: its refusal, 0 for none, and how many lines, ranges or frames it wrote, or
 /// of the walk, how many frames it takes.

@@ -33,7 +33,8 @@ mod segment;
 
 pub use batch::{Batch, BATCH, BATCH_FATES};
 pub use buffer::{
-    Buffer, Group, Head, Offered, Setting, Settings, Tags, Times, Track, PLACES, SIZE, TRACKS,
+    Buffer, Group, Head, Offered, Setting, Settings, Tags, Times, Track, FORMER_SIZE, PLACES, SIZE,
+    TRACKS,
 };
 pub use calls::{create, matches, Reading};
 pub use listing::{ListedFrame, SegmentTrack};

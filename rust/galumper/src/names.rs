@@ -25,7 +25,7 @@ pub enum Refusal {
     ResultLimits = 7,
     /// No place left in the store.
     Full = 8,
-    /// No frame number left to give.
+    /// No frame number left to give, or no group number where the call would begin a group.
     LastNumber = 9,
     /// More ranges or frames than the lent list has places.
     ShortList = 10,
@@ -79,7 +79,7 @@ impl fmt::Display for Refusal {
             Self::Order => "the start is negative or not before the end",
             Self::ResultLimits => "a time would leave the limits",
             Self::Full => "the store is full",
-            Self::LastNumber => "the last frame number is given",
+            Self::LastNumber => "the last frame or group number is given",
             Self::ShortList => "the list has too few places",
             Self::Kinds => "no track, more than four, or an unknown kind",
             Self::Malformed => "the segment is not well-formed",
@@ -105,7 +105,7 @@ impl Cause {
     pub const NEEDS_POINT: Self = Self(3);
     /// Removed: the appended frame took its place.
     pub const OVERLAPPED: Self = Self(4);
-    /// Removed: it depended on a frame that was removed.
+    /// Removed: it depended on a frame of its group that was removed.
     pub const DEPENDED: Self = Self(5);
     /// Removed: by a removal, as it begins in the stretch that goes.
     pub const REMOVED: Self = Self(6);

@@ -68,10 +68,13 @@ fn refused(spoilt: &Buffer) {
 
 #[test]
 fn a_number_that_is_none_of_its_kind() {
-    let spoilers: [fn(&mut Buffer); 12] = [
+    let spoilers: [fn(&mut Buffer); 16] = [
         |buffer| buffer.tags[0][1] = 2,
         |buffer| buffer.tags[0][1] = u32::MAX,
         |buffer| buffer.tags[PLACES - 1][1] = 1,
+        |buffer| buffer.tags[0][4] = 1,
+        |buffer| buffer.tags[0][4] = u32::MAX,
+        |buffer| buffer.tags[PLACES - 1][4] = 1,
         |buffer| buffer.times[PLACES - 1][0] = 1,
         |buffer| buffer.head.tracks[0].kind = Kind(2),
         |buffer| buffer.head.tracks[0].known = 2,
@@ -79,6 +82,7 @@ fn a_number_that_is_none_of_its_kind() {
         |buffer| buffer.head.tracks[3].known = 128,
         |buffer| buffer.head.mode = 2,
         |buffer| buffer.head.group.begun = 2,
+        |buffer| buffer.head.group.begun = u32::MAX,
         |buffer| buffer.head.settings.bounded = 2,
         |buffer| buffer.head.settings.bounded = u64::MAX,
     ];

@@ -25,7 +25,7 @@ fn frame(n: usize) -> Offered {
 }
 
 /// A full buffer of four tracks. Numbers and presentation times are in no order, so that both are
-/// sorted; no two frames of a track touch, so that each is a range.
+/// sorted; no two frames of a track touch, so that each is a range; and each is a group.
 fn full() -> Box<Buffer> {
     let mut fates = [Fate::default(); FATES];
     let mut buffer = galumper::create(&KINDS).expect("four tracks");
@@ -33,9 +33,11 @@ fn full() -> Box<Buffer> {
         assert_eq!(buffer.append(frame(n), &mut fates), Ok(0));
     }
     buffer.head.last = u32::MAX - 1 - BATCH as u32;
+    buffer.head.group.number = PLACES as u32 * 4096;
     for place in 0..PLACES {
         buffer.times[place][0] = (place * 101 % 256) as i64 * 40_000;
         buffer.tags[place][3] = (place * 613 % PLACES) as u32 * 4096 + 1;
+        buffer.tags[place][4] = (place * 211 % PLACES) as u32 * 4096;
     }
     buffer
 }

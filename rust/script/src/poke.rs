@@ -9,6 +9,8 @@ use crate::words::{flag, mode, seconds, whole};
 pub enum Poke {
     /// The last frame number given.
     LastNumber(i64),
+    /// The group number.
+    Group(i64),
     /// The mode only.
     Mode(Mode),
     /// The group start.
@@ -67,6 +69,8 @@ pub enum FrameField {
     Flag(i64),
     /// The frame's number.
     Number(i64),
+    /// The frame's group.
+    Group(i64),
 }
 
 impl Poke {
@@ -74,6 +78,7 @@ impl Poke {
     pub(crate) fn read(words: &[&str]) -> Option<Self> {
         Some(match *words {
             ["last-number", word] => Self::LastNumber(whole(word)?),
+            ["group", word] => Self::Group(whole(word)?),
             ["mode", word] => Self::Mode(mode(word)?),
             ["group-start", word] => Self::GroupStart(maybe(word)?),
             ["group-end", word] => Self::GroupEnd(whole(word)?),
@@ -118,6 +123,7 @@ impl FrameField {
             "duration" => Self::Duration(whole(word)?),
             "flag" => Self::Flag(whole(word)?),
             "number" => Self::Number(whole(word)?),
+            "group" => Self::Group(whole(word)?),
             _ => return None,
         })
     }

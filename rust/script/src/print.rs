@@ -26,6 +26,7 @@ pub fn state_line(state: &State) -> String {
         "ok state".to_string(),
         format!("tracks={}", kinds.join(",")),
         format!("last={}", head.last_number),
+        format!("group={}", head.group),
         format!("mode={mode}"),
         format!("group-start={}", maybe(head.group_start)),
         format!("group-end={}", head.group_end),
@@ -41,13 +42,14 @@ pub fn state_line(state: &State) -> String {
     words.push(format!("frames={}", frames.len()));
     words.extend(frames.iter().map(|frame| {
         format!(
-            "({},{},{},{},{},{})",
+            "({},{},{},{},{},{},{})",
             frame.track,
             frame.number,
             frame.pts,
             frame.dts,
             frame.duration,
-            u8::from(frame.flagged)
+            u8::from(frame.flagged),
+            frame.group
         )
     }));
     words.join(" ")

@@ -153,6 +153,7 @@ impl Subject for Proved {
                 track_count: head.ntracks,
                 tracks: head.tracks.map(track_seen),
                 last_number: head.last,
+                group: head.group.number,
                 mode: match head.mode {
                     0 => Mode::Segments,
                     _ => Mode::Sequence,
@@ -174,9 +175,10 @@ impl Subject for Proved {
         let settings = &mut head.settings;
         match *poke {
             Poke::LastNumber(number) => head.last = number.try_into()?,
+            Poke::Group(number) => head.group.number = number.try_into()?,
             Poke::Mode(mode) => head.mode = mode_there(mode).number(),
             Poke::GroupStart(Maybe { set, value }) => {
-                head.group.begun = u64::from(set);
+                head.group.begun = u32::from(set);
                 head.group.start = value;
             }
             Poke::GroupEnd(end) => head.group.end = end,
@@ -216,7 +218,7 @@ fn settings_seen(settings: &galumper::Settings) -> Settings {
     }
 }
 
-fn frame_seen([pts, dts]: [i64; 2], [track, flag, duration, number]: [u32; 4]) -> Frame {
+fn frame_seen([pts, dts]: [i64; 2], [track, flag, duration, number, group]: [u32; 5]) -> Frame {
     Frame {
         track,
         number,
@@ -224,6 +226,7 @@ fn frame_seen([pts, dts]: [i64; 2], [track, flag, duration, number]: [u32; 4]) -
         dts,
         duration,
         flagged: flag == 1,
+        group,
     }
 }
 
@@ -296,6 +299,7 @@ fn poke_frame(buffer: &mut Buffer, place: usize, field: FrameField) -> Result<()
         FrameField::Duration(duration) => tag[2] = duration.try_into()?,
         FrameField::Flag(flag) => tag[1] = flag.try_into()?,
         FrameField::Number(number) => tag[3] = number.try_into()?,
+        FrameField::Group(number) => tag[4] = number.try_into()?,
     }
     Ok(())
 }

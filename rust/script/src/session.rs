@@ -234,7 +234,7 @@ mod tests {
     #[test]
     fn slots_and_the_saved_state() {
         let script = "create 0\nmode sequence\nsave\nbuffer 2\nsettings\nrestore\nstate";
-        let state = "ok state tracks=0 last=0 mode=sequence group-start=0 group-end=0 \
+        let state = "ok state tracks=0 last=0 group=0 mode=sequence group-start=0 group-end=0 \
                      offset=0/0x0000000000000000 window-start=0/0x0000000000000000 \
                      window-end=unbounded track1=unset,unset,unset,need frames=0";
         assert_eq!(
@@ -306,6 +306,38 @@ mod tests {
             "refused 3",
             "ok",
             "refused 1",
+        ];
+        assert_eq!(answers(script), wanted);
+        assert_eq!(answers_of(&mut Proved, script), wanted);
+    }
+
+    #[test]
+    fn groups() {
+        let script = "poke group 1\ncreate 0\npoke group 4294967294\nabort\n\
+                      append 1 0 0 100 1\nabort\nstate\npoke frame 1 group 7\nstate\n\
+                      poke group 6\nabort\npoke group 4294967296\npoke frame 1 group -1";
+        let state = |group: u32| {
+            format!(
+                "ok state tracks=0 last=1 group=4294967295 mode=segments group-start=unset \
+                 group-end=100 offset=0/0x0000000000000000 window-start=0/0x0000000000000000 \
+                 window-end=unbounded track1=0,100,100,clear frames=1 (1,1,0,0,100,1,{group})"
+            )
+        };
+        let [stored, poked] = [u32::MAX, 7].map(state);
+        let wanted = [
+            "none",
+            "ok",
+            "ok",
+            "ok",
+            "ok fates",
+            "refused 9",
+            &stored,
+            "ok",
+            &poked,
+            "ok",
+            "refused 1",
+            "declined",
+            "declined",
         ];
         assert_eq!(answers(script), wanted);
         assert_eq!(answers_of(&mut Proved, script), wanted);

@@ -229,6 +229,7 @@ impl<T: Trace> Subject for Second<T> {
         let settings = &mut head.settings;
         match *poke {
             Poke::LastNumber(number) => head.last_number = number.try_into()?,
+            Poke::Group(number) => head.group = number.try_into()?,
             Poke::Mode(mode) => head.mode = mode,
             Poke::GroupStart(start) => head.group_start = start,
             Poke::GroupEnd(end) => head.group_end = end,
@@ -285,6 +286,7 @@ fn poke_frame(
             }
         }
         FrameField::Number(number) => frame.number = number.try_into()?,
+        FrameField::Group(number) => frame.group = number.try_into()?,
     }
     Ok(())
 }

@@ -44,7 +44,7 @@ pub(crate) fn append_tested<T: Trace>(
     let number = number.ok_or(Refusal::NumbersGone)?;
     trace.reach(Branch::AppendBegins);
 
-    // Steps 1 to 6 on a copy, and refusal 7 among them.
+    // Steps 1 to 6 on a copy, and refusals 7 and, of the group, 9 among them.
     let mut head = state.head;
     head.last_number = number;
     let frame = place(&mut head, index, offered, trace)?;
@@ -77,21 +77,29 @@ fn check_offered(offered: &Offered) -> Result<(), Refusal> {
 }
 
 /// Steps 1 to 3, each pass with the frame as offered. There are two passes at most: the first
-/// break unsets the last decode time, without which nothing breaks.
+/// break unsets the last decode time, without which nothing breaks. The group that a break begins
+/// is asked for when both passes have gone by refusal 7.
 fn place<T: Trace>(
     head: &mut Head,
     index: usize,
     offered: &Offered,
     trace: &mut T,
 ) -> Result<Frame, Refusal> {
-    loop {
+    let mut group = Ok(head.group);
+    let frame = loop {
         start_group(head, offered, trace);
         let frame = shift(head, offered, trace)?;
         if !breaks(&head.tracks[index], frame.dts, trace) {
-            return Ok(frame);
+            break frame;
         }
         head.break_group(frame.pts, trace);
-    }
+        group = head.next_group();
+    };
+    head.group = group.inspect_err(|_| trace.reach(Branch::GroupsGone))?;
+    Ok(Frame {
+        group: head.group, // the next one after a break
+        ..frame
+    })
 }
 
 /// Step 1: in sequence mode with group start set, the offset moves the frame to the group start.
@@ -121,7 +129,7 @@ fn start_group<T: Trace>(head: &mut Head, offered: &Offered, trace: &mut T) {
 /// Step 2: the frame with the offset added, or refusal 7.
 fn shift<T: Trace>(head: &Head, offered: &Offered, trace: &mut T) -> Result<Frame, Refusal> {
     let offset = head.settings.offset.micros;
-    let frame = Frame::placed(offered, offset, head.last_number);
+    let frame = Frame::placed(offered, offset, head.last_number, head.group);
     let leaves = [
         (offset, Branch::OffsetLeaves),
         (frame.pts, Branch::PresentationLeaves),
@@ -290,6 +298,9 @@ fn store<T: Trace>(state: &mut State, frame: Frame, trace: &mut T) {
         .is_some_and(|last| (last.track, last.dts) == (frame.track, frame.dts))
     {
         trace.reach(Branch::Step9Equal);
+    }
+    if frame.group == u32::MAX {
+        trace.reach(Branch::Step9LastGroup);
     }
 }
 

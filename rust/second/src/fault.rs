@@ -47,6 +47,8 @@ named! {
         FrameTrack,
         /// frame number 0 or above the last given
         FrameNumber,
+        /// frame of a group above the current one
+        FrameGroup,
         /// presentation time below 0 or outside the limits
         FramePresentation,
         /// decode time outside the limits

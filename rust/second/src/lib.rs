@@ -24,6 +24,7 @@ mod settings;
 mod state;
 mod store;
 mod trace;
+mod walk;
 mod well_formed;
 
 pub use append::{append, append_traced};

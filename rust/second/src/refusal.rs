@@ -19,7 +19,7 @@ pub enum Refusal {
     ResultLimits = 7,
     /// The steps would leave more than 1,024 frames stored.
     Full = 8,
-    /// The last frame number is already given.
+    /// The last frame number is already given, or the last group number where one more is needed.
     NumbersGone = 9,
     /// The lent list has fewer places than there are ranges, or frames to be listed.
     ShortList = 10,
@@ -49,7 +49,7 @@ pub enum Cause {
     NeedsRandomAccess = 3,
     /// Taken out by the frame that is stored in its place.
     Overlapped = 4,
-    /// Taken out because a frame that it depends on was.
+    /// Taken out because a frame of its group that it depends on was.
     Follows = 5,
     /// Taken out by a removal.
     Removed = 6,

@@ -37,15 +37,12 @@ pub fn remove_traced<T: Trace>(
     if !end.bounded {
         trace.reach(Branch::RemoveUnbounded);
     }
-
-    let mut count = 0;
-    let mut last_lost = None;
-    for track in state.head.track_numbers() {
-        let lines = &mut fates[count..];
-        let (lost, last) = remove_from(state, track, start, end.micros(), lines, trace);
-        count += lost;
-        last_lost = last_lost.or(last);
+    if state.head.group == u32::MAX && begins_group(*state, start, end) {
+        trace.reach(Branch::RemoveGroupsGone);
+        return Err(Refusal::NumbersGone);
     }
+
+    let (count, last_lost) = remove_from_all(state, start, end, fates, trace);
     if count == 0 {
         trace.reach(Branch::RemoveNone);
     }
@@ -55,12 +52,43 @@ pub fn remove_traced<T: Trace>(
             _ => Branch::RemoveLosesTaken,
         });
         state.head.break_group(pts, trace);
+        state.head.group += 1;
     }
     Ok(count)
 }
 
-/// Removes from one track: gives the count of fate lines, and presentation time and cause of the
-/// first frame lost, in their order, whose decode time is the track's last.
+/// Whether a removal takes a last decode time, as a copy of the state tells.
+fn begins_group(mut state: State, start: i64, end: End) -> bool {
+    let mut lines = [Fate::default(); FRAME_PLACES];
+    let (_, last_lost) = remove_from_all(&mut state, start, end, &mut lines, &mut ());
+    last_lost.is_some()
+}
+
+/// Presentation time and cause of the first frame lost, in the order of the fate lines, whose decode
+/// time is its track's last.
+type LastLost = Option<(i64, Cause)>;
+
+/// Removes from all tracks, one after the other: gives the count of fate lines, and the frame for
+/// which the group breaks.
+fn remove_from_all<T: Trace>(
+    state: &mut State,
+    start: i64,
+    end: End,
+    fates: &mut [Fate],
+    trace: &mut T,
+) -> (usize, LastLost) {
+    let mut count = 0;
+    let mut last_lost = None;
+    for track in state.head.track_numbers() {
+        let lines = &mut fates[count..];
+        let (lost, last) = remove_from(state, track, start, end.micros(), lines, trace);
+        count += lost;
+        last_lost = last_lost.or(last);
+    }
+    (count, last_lost)
+}
+
+/// Removes from one track.
 fn remove_from<T: Trace>(
     state: &mut State,
     track: u32,
@@ -68,7 +96,7 @@ fn remove_from<T: Trace>(
     end: Option<i64>,
     fates: &mut [Fate],
     trace: &mut T,
-) -> (usize, Option<(i64, Cause)>) {
+) -> (usize, LastLost) {
     let last_decode = state.head.tracks[track as usize - 1].last_decode.get();
     let places = state.places_of(track);
     let frames = &mut state.frames[places.clone()];
@@ -109,10 +137,11 @@ fn far_edge<T: Trace>(frames: &[Frame], end: Option<i64>, trace: &mut T) -> i64 
     edge.unwrap_or(i64::MAX)
 }
 
-/// Ends the group and opens the window; the offset stays.
+/// Ends the group, also one in which nothing is set, and opens the window; the offset stays.
 pub fn abort(state: &mut State) -> Result<(), Refusal> {
     check(state)?;
     let head = &mut state.head;
+    head.group = head.next_group()?;
     head.unset_everywhere();
     if head.mode == Mode::Sequence {
         head.group_start = Maybe::of(head.group_end);

@@ -83,11 +83,13 @@ pub struct Frame {
     pub duration: u32,
     /// Whether it is a random access point.
     pub flagged: bool,
+    /// The number of the group in which it was stored.
+    pub group: u32,
 }
 
 impl Frame {
     /// A frame as offered, moved by an offset.
-    pub(crate) fn placed(offered: &Offered, offset: i64, number: u32) -> Self {
+    pub(crate) fn placed(offered: &Offered, offset: i64, number: u32, group: u32) -> Self {
         Self {
             track: offered.track,
             number,
@@ -95,6 +97,7 @@ impl Frame {
             dts: offered.dts + offset,
             duration: offered.duration,
             flagged: offered.flagged,
+            group,
         }
     }
 
@@ -129,6 +132,9 @@ pub struct Head {
     pub tracks: [Track; TRACK_PLACES],
     /// The last frame number given.
     pub last_number: u32,
+    /// The number of the group, which the frames stored take. It rises whenever the three are unset
+    /// on all tracks.
+    pub group: u32,
     /// The mode.
     pub mode: Mode,
     /// Where the next group starts, if that is decided.
@@ -160,8 +166,14 @@ impl Head {
         }
     }
 
+    /// The number of the group after this one, or refusal 9.
+    pub(crate) fn next_group(&self) -> Result<u32, Refusal> {
+        self.group.checked_add(1).ok_or(Refusal::NumbersGone)
+    }
+
     /// Unsets last decode time, last duration and highest end on all tracks, and turns
-    /// need-random-access on for all.
+    /// need-random-access on for all. The group's number is left to the caller, who may have to
+    /// refuse.
     pub(crate) fn unset_everywhere(&mut self) {
         for track in &mut self.tracks[..self.track_count] {
             *track = Track {

@@ -1,11 +1,12 @@
-//! The store: a track's frames, putting one in, the walk of step 8 that takes some out, and how late
-//! a track's frames are presented.
+//! The store: a track's frames, putting one in, taking some out with those that follow them, and how
+//! late a track's frames are presented.
 
 use std::ops::Range;
 
 use crate::refusal::{Cause, Fate, Refusal};
 use crate::state::{Frame, State, TRACK_PLACES};
-use crate::trace::{Branch, Trace};
+use crate::trace::Trace;
+use crate::walk::Walks;
 
 /// Refusal 2, by a call that needs so many lines.
 pub(crate) fn check_fates(fates: &[Fate], lines: usize) -> Result<(), Refusal> {
@@ -88,8 +89,9 @@ impl Latest {
 }
 
 /// Takes those of a track's frames out that are presented in `taken`, by `cause`, and with them,
-/// by cause 5, the unflagged frames after one of them and before the next flagged frame that
-/// stays (step 8). Each goes to `lost`; those that stay are moved to the front and counted.
+/// by cause 5, the unflagged frames after one of them of their own group and before the next flagged
+/// frame of that group that stays (step 8). Each goes to `lost`; those that stay are moved to the
+/// front and counted.
 pub(crate) fn take_out<T: Trace>(
     frames: &mut [Frame],
     taken: &Range<i64>,
@@ -100,22 +102,18 @@ pub(crate) fn take_out<T: Trace>(
     let Some(first) = frames.iter().position(|frame| taken.contains(&frame.pts)) else {
         return frames.len();
     };
+    let mut walks = Walks::before(&frames[first..], first);
     let mut kept = first;
-    let mut follows = false;
     for place in first..frames.len() {
-        let frame = frames[place];
-        if taken.contains(&frame.pts) {
-            lost(&frame, cause, trace);
-            follows = true;
-        } else if follows && !frame.flagged {
-            trace.reach(Branch::Step8Takes);
-            lost(&frame, Cause::Follows, trace);
+        let frame = &frames[place];
+        let group = walks.group_of(frame);
+        let own = taken.contains(&frame.pts);
+        if own || walks.lead_to(frame, group, trace) {
+            walks.take(group, place);
+            lost(frame, if own { cause } else { Cause::Follows }, trace);
         } else {
-            if follows {
-                trace.reach(Branch::Step8Stops);
-            }
-            follows = false;
-            frames[kept] = frame;
+            walks.leave(frame, group, place);
+            frames[kept] = frames[place];
             kept += 1;
         }
     }

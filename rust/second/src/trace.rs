@@ -61,6 +61,8 @@ named! {
         BreakInSegments,
         /// break in sequence mode, group start set
         BreakInSequence,
+        /// refusal 9, a break in the last group
+        GroupsGone,
         /// step 4 drop, before the window
         Step4Drop,
         /// step 5 drop, after the window
@@ -93,12 +95,18 @@ named! {
         Step8Takes,
         /// step 8 stops at a flagged frame
         Step8Stops,
+        /// step 8 goes past a flagged frame of another group
+        Step8PastPoint,
+        /// step 8 leaves a frame to which only another group's would lead
+        Step8NotCarried,
         /// step 9 stores as the last of the track
         Step9Last,
         /// step 9 stores before others of the track
         Step9Before,
         /// step 9 stores after an equal decode time
         Step9Equal,
+        /// step 9 stores in the last group
+        Step9LastGroup,
         /// step 9 sets highest end
         Step9HighestSet,
         /// step 9 raises highest end
@@ -109,8 +117,10 @@ named! {
         Step9GroupRaised,
         /// step 9 leaves group end
         Step9GroupKept,
-        /// remove: refusals passed
+        /// remove: refusals before 9 passed
         RemoveBegins,
+        /// refusal 9, a removal of the last decode time in the last group
+        RemoveGroupsGone,
         /// removal end unbounded
         RemoveUnbounded,
         /// removal far edge at a flagged frame

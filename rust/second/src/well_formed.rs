@@ -123,8 +123,8 @@ fn frames(state: &State) -> Result<(), Fault> {
 /// Asked of up to 1,024 places in every call, so without a branch for each field.
 fn is_zero(place: &Frame) -> bool {
     let times = place.pts | place.dts;
-    let numbers = place.track | place.number | place.duration | u32::from(place.flagged);
-    times | i64::from(numbers) == 0
+    let tags = place.track | place.number | place.duration | place.group;
+    times | i64::from(tags | u32::from(place.flagged)) == 0
 }
 
 /// Store order.
@@ -141,6 +141,7 @@ fn frame(frame: &Frame, head: &Head) -> Result<(), Fault> {
         (1..=head.last_number).contains(&frame.number),
         Fault::FrameNumber,
     )?;
+    ensure(frame.group <= head.group, Fault::FrameGroup)?;
     ensure(
         frame.pts >= 0 && result_time(frame.pts),
         Fault::FramePresentation,

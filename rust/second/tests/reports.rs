@@ -31,6 +31,7 @@ fn scattered(numbers: &mut Numbers) -> State {
             dts: numbers.below(300) as i64,
             duration: 1 + numbers.below(30) as u32,
             flagged: true,
+            group: 0,
         })
         .collect();
     frames.sort_by_key(|frame| (frame.track, frame.dts, frame.number));

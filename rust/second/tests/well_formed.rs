@@ -66,6 +66,8 @@ const DAMAGES: &[(Fault, Damage)] = &[
     (Fault::FrameTrack, |s| s.frame_count = 5),
     (Fault::FrameNumber, |s| s.frames[0].number = 0),
     (Fault::FrameNumber, |s| s.head.last_number = 3),
+    (Fault::FrameGroup, |s| s.frames[3].group = 1),
+    (Fault::FrameGroup, |s| { s.head.group = u32::MAX - 1; s.frames[0].group = u32::MAX }),
     (Fault::FramePresentation, |s| s.frames[1].pts = -1),
     (Fault::FramePresentation, |s| s.frames[1].pts = i64::MAX),
     (Fault::FrameDecode, |s| s.frames[0].dts = -BEYOND),
@@ -79,6 +81,7 @@ const DAMAGES: &[(Fault, Damage)] = &[
     (Fault::FrameTwice, |s| s.frames[2].number = 3),
     (Fault::FramePlace, |s| s.frame_count = 3),
     (Fault::FramePlace, |s| s.frames[1023].flagged = true),
+    (Fault::FramePlace, |s| { s.head.group = 1; s.frames[4].group = 1 }),
 ];
 
 /// What every call says to a state, each with a copy.
@@ -156,6 +159,8 @@ fn what_may_look_damaged_and_is_not() {
         |s| s.frames[0].dts = -RESULT_LIMIT,
         |s| s.frames[1].pts = RESULT_LIMIT - 100,
         |s| s.frames[1].flagged = true,
+        |s| s.head.group = u32::MAX,
+        |s| { s.head.group = 7; s.frames[0].group = 7; s.frames[1].group = 3 },
     ];
     for (place, change) in harmless.iter().enumerate() {
         let mut state = healthy();

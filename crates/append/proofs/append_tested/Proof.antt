@@ -1,4 +1,4 @@
--- The refusals in their order, each by the test as it is told; then the pass that decides is the last one, and it is settled.
+-- The refusals in their order, each by the test as it is told; then what both passes decide, and the last one is settled.
 use mathlib.Core.Path.{_≡_, refl, sym, ap, _∙_, subst}
 use mathlib.Core.Bool.{true, false, _&&_}
 use Prim.Native.Nat.{_≤_}
@@ -7,19 +7,20 @@ use borrow.Author.Needs.{needs}
 use borrow.Author.Tests.{ne-eqb, not-true, not-false}
 use lib.Dec.{leb, eqb}
 use lib.ListN.{length, take}
-use Rattle.buffer_state.specs.declared.Refusal.the-variants.{NoTrack, FrameLimits, ResultLimits, LastNumber}
-use Rattle.buffer_state.specs.Append.{lastPass, leavesLimits, offerable}
+use Rattle.buffer_state.specs.declared.Refusal.the-variants.{NoTrack, FrameLimits, LastNumber}
+use Rattle.buffer_state.specs.declared.Stop.the-variants.{Nothing}
+use Rattle.buffer_state.specs.Append.{offerable}
 use Rattle.buffer_state.specs.Buffer.{Buffer}
 use Rattle.buffer_state.specs.Layout.{bufferOf}
 use Rattle.buffer_state.specs.Lent.{framesOf, stateAt}
 use Rattle.buffer_state.specs.Limits.{places, lastNumber}
 use Rattle.buffer_state.specs.Refusals.{refused}
 use Rattle.buffer_laws.proofs.AnswerLaws.{answered}
-use Rattle.heads.specs.declared.Passed.{Passed}
-use Rattle.heads.specs.Heads.{passedAs, deciding}
-use Rattle.heads.proofs.PassLaws.{decides, decides-last}
+use Rattle.heads.specs.declared.Decided.{Decided}
+use Rattle.heads.specs.Heads.{decision, Decides}
+use Rattle.heads.proofs.PassLaws.{told-refused, Last, told-last}
 use Rattle.append.specs.Settled.{passAt, settledResult, Ready, Before}
-use Rattle.append.proofs.AnswerLaws.{refused-three, refused-four, refused-nine, refused-seven, goes-on, state-head, state-track, last-pass-track, last-pass-count, last-pass-back, last-pass-ready}
+use Rattle.append.proofs.AnswerLaws.{refused-three, refused-four, refused-nine, stops, goes-on, state-head, state-track, last-pass-track, last-pass-count, last-pass-back, last-pass-ready}
 use Rattle.append.proofs.StoredLaws.{held-head}
 use Rattle.append.proofs.append_tested.Statement.{statement}
 use Rattle.append.proofs.append_tested.Tie as tie
@@ -97,45 +98,25 @@ last-pass-requires c κs =
     let a = s .args in
     (state-head (a .h) (a .times .now) (a .tags .now) (s .pre .0), good g, state-track (a .h) (a .times .now) (a .tags .now) (s .pre .0) (a .f) (track t))
 
--- the pass that decides
-decided : (c : tie.After-last-pass) → let s = at-start (c .before) in c .last-pass .result ≡ passedAs (deciding (held s) (s .args .f))
+-- what both passes decide
+decided : (c : tie.After-last-pass) → let s = at-start (c .before) in Decides (c .last-pass .result) (decision (held s) (s .args .f))
 decided c = let s = at-start (c .before) in c .last-pass .ensures (held s) (held-head (s .args .h) (s .args .times .now) (s .args .tags .now) (s .pre .0))
 
-refuse-requires-4 : tie.Need-refuse-requires-4
-refuse-requires-4 c κs = search needs
+enum-told : tie.Need-enum-told
+enum-told c = search needs
 
-returns-4 : tie.Need-returns-4
-returns-4 c =
-    let i = c .before in
-    let p = i .before .before in
-    let n = p .before in
-    let g = n .before .before in
-    let t = g .before .before in
-    let s = t .before .before in
-    let a = s .args in
-    let out = not-false _ (sym (decides (held s) (a .f)) ∙ ap (λ (x : Passed). x .fits) (sym (decided p)) ∙ not-true _ (i .if4 .taken)) in
-    answered (a .h) (a .times .now) (a .tags .now) (a .fates .now) (refused ResultLimits)
-    (refused-seven _ (a .f) (a .h) (a .times .now) (a .tags .now) (s .pre .0) lines (track t) (good g) (number n) out)
-    (c .refuse4 .ensures) refl refl refl
-
--- refusal 7 does not take it
-inside : (c : tie.Else4) → let s = at-start (c .before .before .before) in leavesLimits (held s) (s .args .f) ≡ false
-inside c =
-    let p = c .before .before in
-    let s = at-start (p .before) in
-    not-true _ (sym (decides (held s) (s .args .f)) ∙ ap (λ (x : Passed). x .fits) (sym (decided p)) ∙ not-false _ (c .if4 .left))
-
--- so it is the last
-last : (c : tie.Else4) → let s = at-start (c .before .before .before) in c .before .before .last-pass .result ≡ passedAs (lastPass (held s) (s .args .f))
+-- nothing stops the frame, so the pass is the last
+last : (c : tie.After-enum-told) → let s = at-start (c .before .before .before) in Last (held s) (s .args .f) (c .before .before .last-pass .result)
 last c =
     let p = c .before .before in
     let s = at-start (p .before) in
-    decided p ∙ ap passedAs (decides-last (held s) (s .args .f) (inside c))
+    let free : p .last-pass .result .stop ≡ Nothing = cc in
+    told-last (held s) (s .args .f) (p .last-pass .result) (decided p) free
 
 settle-requires : tie.Need-settle-requires
 settle-requires c κs =
-    let i = c .before .before .before in
-    let n = i .before .before .before in
+    let l = last (c .before .before .before) in
+    let n = c .before .before .before .before .before .before in
     let t = n .before .before .before .before in
     let s = t .before .before in
     let a = s .args in
@@ -144,11 +125,17 @@ settle-requires c κs =
     let own = last-pass-track (a .h) (a .times .now) (a .tags .now) w (a .f) in
     let count = last-pass-count (a .h) (a .times .now) (a .tags .now) w (a .f) in
     let ok =
-    subst (λ (p : Passed). Ready (p .head) (a .times .now) (a .tags .now) (p .frame)
-    × Before (p .frame .track) (a .bound .micros) (take (p .head .nframes) (framesOf (a .times .now) (a .tags .now))) × (p .head .nframes ≤ length (a .fates .now)))
-    (sym (last i))
-    (last-pass-ready (a .h) (a .times .now) (a .tags .now) w (a .f) has (number n) (inside i), rw (own, count) (s .pre .1), omega (arith, count, s .pre .2)) in
+    subst (λ (d : Decided). Ready (d .head) (a .times .now) (a .tags .now) (d .frame)
+    × Before (d .frame .track) (a .bound .micros) (take (d .head .nframes) (framesOf (a .times .now) (a .tags .now))) × (d .head .nframes ≤ length (a .fates .now)))
+    (sym (l .told))
+    (last-pass-ready (a .h) (a .times .now) (a .tags .now) w (a .f) has (number n) (l .inside) (l .group), rw (own, count) (s .pre .1), omega (arith, count, s .pre .2)) in
     (ok .0, ok .1, ok .2, s .pre .3)
+
+enum-known-stop : tie.Need-enum-known-stop
+enum-known-stop c = search needs
+
+refuse-requires-4 : tie.Need-refuse-requires-4
+refuse-requires-4 c κs = search needs
 
 same-length : tie.Need-same-length
 same-length c = search needs
@@ -159,23 +146,38 @@ same-length-2 c = search needs
 same-length-3 : tie.Need-same-length-3
 same-length-3 c = search needs
 
-returns-5 : tie.Need-returns-5
-returns-5 c =
+returns-4 : tie.Need-returns-4
+returns-4 c =
     let r = c .before .before .before in
-    let i = r .before .before .before .before in
-    let n = i .before .before .before in
+    let l = last (r .before .before .before .before) in
+    let n = r .before .before .before .before .before .before .before in
     let g = n .before .before in
     let t = g .before .before in
     let s = t .before .before in
     let a = s .args in
     let w = s .pre .0 in
     let back =
-    ap (λ (p : Passed). settledResult (passAt (p .head) (a .times .now) (a .tags .now) (p .frame))) (last i)
+    ap (λ (d : Decided). settledResult (passAt (d .head) (a .times .now) (a .tags .now) (d .frame))) (l .told)
     ∙ ap settledResult (last-pass-back (a .h) (a .times .now) (a .tags .now) w (a .f)) in
     let e = r .settle .ensures in
     answered (a .h) (a .times .now) (a .tags .now) (a .fates .now) _
-    (goes-on _ (a .f) (a .h) (a .times .now) (a .tags .now) w lines (track t) (good g) (number n) (inside i) ∙ sym back)
+    (goes-on _ (a .f) (a .h) (a .times .now) (a .tags .now) w lines (track t) (good g) (number n) (l .inside) (l .group) ∙ sym back)
     (e .0) (e .1 .0) (e .1 .1 .0) (e .1 .1 .1)
+
+returns-5 : tie.Need-returns-5
+returns-5 c =
+    let m = c .before .before in
+    let p = m .before .before in
+    let n = p .before in
+    let g = n .before .before in
+    let t = g .before .before in
+    let s = t .before .before in
+    let a = s .args in
+    let why = m .stop .given .0 .0 in
+    answered (a .h) (a .times .now) (a .tags .now) (a .fates .now) (refused why)
+    (stops _ (a .f) (a .h) (a .times .now) (a .tags .now) (s .pre .0) lines (track t) (good g) (number n) why
+    (told-refused (p .last-pass .result) _ (decided p) why (m .stop .given .1)))
+    (c .refuse4 .ensures) refl refl refl
 
 pub append-tested-spec : {M : Type 1} → statement M
 append-tested-spec =
@@ -190,10 +192,12 @@ append-tested-spec =
     refuse-requires-3
     returns-3
     last-pass-requires
-    refuse-requires-4
-    returns-4
+    enum-told
     settle-requires
+    enum-known-stop
+    refuse-requires-4
     same-length
     same-length-2
     same-length-3
+    returns-4
     returns-5)

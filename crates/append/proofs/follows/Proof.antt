@@ -84,7 +84,7 @@ shown c =
     let s = start (tested c) in
     let g = s .pre in
     let k = calm c (g .held) (g .laid) in
-    ap (λ (p : Pass). resultTime (p .frame .pts)) (sym (k .last)) ∙ last-pass-good (g .held) (s .args .f) (good-facts (g .held) (g .good)) (k .inside) .fit .pts
+    ap (λ (p : Pass). resultTime (p .frame .pts)) (sym (k .last)) ∙ last-pass-good (g .held) (s .args .f) (good-facts (g .held) (g .good)) (k .inside) (k .group) .fit .pts
 
 drop-cause-requires : tie.Need-drop-cause-requires
 drop-cause-requires c κs = (own (c .before), shown (c .before))

@@ -19,8 +19,8 @@ use Rattle.append.proofs.StoredLaws.{freed}
 use Rattle.append.proofs.put_in.Statement.{statement}
 use Rattle.append.proofs.put_in.Tie as tie
 
-take-out-requires : tie.Need-take-out-requires
-take-out-requires c κs =
+take-in-requires : tie.Need-take-in-requires
+take-in-requires c κs =
     let s = c .before .before .before in
     let p = s .pre .0 in
     let f = s .pre .1 in
@@ -39,8 +39,8 @@ insert-requires c κs =
     let t = c .before .before .before .before .before in
     let s = t .before .before .before .before in
     let a = s .args in
-    let e = t .take-out .ensures in
-    held-insertable (left s) (t .take-out .result .left) (t .take-out .last .0) (t .take-out .last .1 .0) (e .1 .1 .1 .1 .0) (e .0) (e .1 .0)
+    let e = t .take-in .ensures in
+    held-insertable (left s) (t .take-in .result .left) (t .take-in .last .0) (t .take-in .last .1 .0) (e .1 .1 .1 .1 .0) (e .0) (e .1 .0)
     (freed (a .spans) (a .n) (a .first) (a .times .now) (a .tags .now) (s .pre .0) (s .pre .1) (s .pre .2)) (in-order s)
 
 same-length : tie.Need-same-length
@@ -57,12 +57,12 @@ returns c =
     let u = c .before .before in
     let t = u .before .before .before .before .before .before in
     let s = t .before .before .before .before in
-    let e = t .take-out .ensures in
+    let e = t .take-in .ensures in
     let f = s .args .f in
-    let first = held-first (left s) (t .take-out .result .left) (t .take-out .last .0) (t .take-out .last .1 .0) (e .1 .1 .1 .1 .0) (e .0) (e .1 .0) in (
+    let first = held-first (left s) (t .take-in .result .left) (t .take-in .last .0) (t .take-in .last .1 .0) (e .1 .1 .1 .1 .0) (e .0) (e .1 .0) in (
       u .insert .ensures .0 ∙ ap (λ (l : List Frame). timesOf (padded places zeroFrame (insertSorted f l))) first,
       (u .insert .ensures .1 ∙ ap (λ (l : List Frame). tagsOf (padded places zeroFrame (insertSorted f l))) first, (e .1 .1 .0, e .1 .1 .1 .1)),
     )
 
 pub put-in-spec : {M : Type 1} → statement M
-put-in-spec = tie.close (tie.spec take-out-requires insert-requires same-length same-length-2 same-length-3 returns)
+put-in-spec = tie.close (tie.spec take-in-requires insert-requires same-length same-length-2 same-length-3 returns)

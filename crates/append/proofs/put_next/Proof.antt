@@ -49,7 +49,7 @@ nine c =
 
 insert-requires : tie.Need-insert-requires
 insert-requires c κs =
-    let s = c .before .before .before .before .before in
+    let s = c .before .before .before .before .before .before in
     let a = s .args in
     let h = held-store (a .h) (a .times .now) (a .tags .now) (s .pre .0 .whole) in
     (s .pre .1, h .long, h .hold, h .order)
@@ -65,10 +65,10 @@ unfolding stepNine
 returns c =
     let u = c .before .before in
     let f = u .before .before .before in
-    let x = f .before in
+    let x = f .before .before in
     let s = x .before .before in
     let g = s .args .g in
-    let new = f .stored-as .ensures ∙ ap (λ (h : Head). storedAs (h .last) g) (nine x) in (
+    let new = f .stored-as .ensures ∙ ap (λ (h : Head). storedAs (h .last) (h .group .number) g) (nine x) in (
       nine x,
       (
         u .insert .ensures .0 ∙ ap (λ (y : Frame). timesOf (padded places zeroFrame (insertSorted y (frames s)))) new,

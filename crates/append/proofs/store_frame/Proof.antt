@@ -194,14 +194,14 @@ stored-as-requires c κs = search needs
 
 put-in-requires : tie.Need-put-in-requires
 put-in-requires c κs =
-    let e = c .before .before .before .before .before in
+    let e = c .before .before .before .before .before .before in
     let m = e .before in
     let s = off (spanned m) .before in
     (store s, m .first-overlapped .ensures, omega (arith, m .first-overlapped .ensures .inside, e .if1 .left), s .pre .3)
 
 -- where they were found, and how many are left
 abbrev found : tie.After-put-in → tie.Else1
-found c = c .before .before .before .before .before .before
+found c = c .before .before .before .before .before .before .before
 
 left : (c : tie.After-put-in) → let s = off (spanned (found c .before)) .before in c .put-in .result .left ≡ length (kept (overlapMarks (storing s)))
 left c = c .put-in .ensures .1 .1 .1 .0 ∙ ap (λ (ms : List Marked). length (kept ms)) (marked (spanned (found c .before)))
@@ -238,7 +238,7 @@ returns-3 c =
     let res = store-result (pass s) (s .pre .1) all in
     let nine = c .step-nine .ensures (q .buffer) (kept (overlapMarks q)) (headed k) (left u) in
     let told = u .put-in .ensures .1 .1 .1 .1 ∙ ap (λ (ms : List Marked). length (linesOf ms)) (marked p) in
-    let new = f .stored-as .ensures ∙ ap (λ (h : Head). storedAs (h .last + 1) (a .g)) (headed k) in
+    let new = f .stored-as .ensures ∙ ap (λ (h : Head). storedAs (h .last + 1) (h .group .number) (a .g)) (headed k) in
     let ms = marked p in
     answered (a .old) (a .times .now) (a .tags .now) (a .fates .now) (done (stored q)) res
     (λ j. record { answer = Count.Done (told j); head = nine j })

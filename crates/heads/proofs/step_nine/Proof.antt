@@ -68,7 +68,7 @@ returns c =
     told (n .end-offered .result) ended (λ z. withEnd (k .numbered .result .group) (raised (k .numbered .result .group .end) z)) (r .group-raised .ensures)
     ∙ ap (λ (h : Head). withEnd (h .group) (raised (h .group .end) (n .end-offered .result))) numbered
     ∙ ap (λ (z : ℤ). withEnd (b .group) (raised (b .group .end) z)) (n .end-offered .ensures) in
-    let x : Frame = storedAs (b .last + 1) f in
+    let x : Frame = storedAs (b .last + 1) (b .group .number) f in
     let count : s .args .left + 1 ≡ length (insertSorted x left) = omega (arith, insert-length x left, d) in
     let c′ : Buffer = withFrames (withGroup (withLast b (b .last + 1)) (withEnd (b .group) (raised (b .group .end) (endOffered f)))) (insertSorted x left) in
     let grown : m .grown .result ≡ headOf c′ = m .grown .ensures ∙ (λ j. grownHead (numbered j) (count j) (raised-to j)) in

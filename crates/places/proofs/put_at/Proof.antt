@@ -1,17 +1,13 @@
 use borrow.Author.Needs.{needs}
-use native.Mathlib.Omega.{arith}
-use Prim.Native.Nat.{ℕ, _+_, _-_, _≤_, _<_}
-use mathlib.Core.Path.{_≡_, ap}
+use Prim.Native.Nat.{ℕ}
+use mathlib.Core.Path.{ap}
 use mathlib.Core.List.{[], _∷_}
 use mir.Syntax.{w64}
 use mir.Val.{SFits}
 use mir.ValLaws.{toZ-ofZ}
-use lib.ListN.{length, set}
+use lib.ListN.{set}
 use Rattle.places.proofs.put_at.Statement.{statement}
 use Rattle.places.proofs.put_at.Tie as tie
-use Rattle.places.proofs.put_at.Reads as reads
-use Rattle.places.proofs.put_at.Lts as lts
-use Rattle.places.proofs.flag_out.Reads as flag-out-reads
 
 shown : (c : tie.Start) → SFits w64 (c .args .f .pts)
 shown c = search needs
@@ -45,7 +41,7 @@ returns c =
     let b = c .before .before in
     let f = b .args .f in (
       rw (toZ-ofZ w64 (f .pts) (shown b), toZ-ofZ w64 (f .dts) (decoded b)),
-      ap (λ (x : ℕ). set (b .args .tags .now) (b .args .i) (f .track ∷ x ∷ f .duration ∷ f .number ∷ [])) (c .flag-out .ensures),
+      ap (λ (x : ℕ). set (b .args .tags .now) (b .args .i) (f .track ∷ x ∷ f .duration ∷ f .number ∷ f .group ∷ [])) (c .flag-out .ensures),
     )
 
 pub put-at-spec : {M : Type 1} → statement M

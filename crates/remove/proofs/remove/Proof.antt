@@ -11,10 +11,10 @@ use Rattle.laws.proofs.WordLaws.{told}
 use Rattle.buffer_state.specs.Answers.{counted, timesAfter, tagsAfter, listAfter, removeResult}
 use Rattle.buffer_state.specs.Append.{Outcome}
 use Rattle.buffer_state.specs.Lent.{wellFormedAt}
-use Rattle.buffer_state.specs.Refusals.{Result, done}
-use Rattle.buffer_state.specs.Remove.{removed}
+use Rattle.buffer_state.specs.Refusals.{Result}
 use Rattle.buffer_laws.proofs.AnswerLaws.{answered}
 use Rattle.taking.specs.Loss.{boundIn}
+use Rattle.remove.specs.Loss.{overResult}
 use Rattle.remove.proofs.CallLaws.{overStretch, ill-formed, short-list, by-stretch}
 use Rattle.remove.proofs.PlaceLaws.{held}
 use Rattle.remove.proofs.remove.Statement.{statement}
@@ -89,7 +89,7 @@ returns-3 c =
     let a = at-start (k .before .before .before) .args in
     let from = m .stretch .given .0 .0 in
     let to = m .stretch .given .0 .1 .0 in
-    let outcome : ℤ → Result Outcome = λ z. done (removed z (boundIn to) (held (a .h) (a .times .now) (a .tags .now))) in
+    let outcome : ℤ → Result Outcome = λ z. overResult z (boundIn to) (held (a .h) (a .times .now) (a .tags .now)) in
     let fits : SFits w64 from = record { sfits = t .known-told .given .0 .1 } in
     let left = r .remove-over .ensures in
     answered (a .h) (a .times .now) (a .tags .now) (a .fates .now) (outcome from)

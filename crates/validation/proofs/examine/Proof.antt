@@ -18,14 +18,14 @@ use Rattle.validation.proofs.examine.Statement.{statement}
 use Rattle.validation.proofs.examine.Tie as tie
 
 abbrev Inv-loop : tie.InvT-loop
-Inv-loop times tags n tracks last rising₀ i₀ rising i =
+Inv-loop times tags n tracks last group rising₀ i₀ rising i =
     (1 ≤ i)
     × (i ≤ n)
-    × (rowsFrom tracks last (frameOf (getD times (i - 1) []) (getD tags (i - 1) [])) (drop i (take n times)) (drop i (take n tags)) ≡ rowsFrom tracks last zeroFrame (take n times) (take n tags))
+    × (rowsFrom tracks last group (frameOf (getD times (i - 1) []) (getD tags (i - 1) [])) (drop i (take n times)) (drop i (take n tags)) ≡ rowsFrom tracks last group zeroFrame (take n times) (take n tags))
     × ((rising && following ltb (numberIn (getD tags (i - 1) [])) (numbersOf (drop i (take n tags)))) ≡ following ltb 0 (numbersOf (take n tags)))
 
 abbrev μ-loop : tie.MeasureT-loop
-μ-loop times tags n tracks last rising₀ i₀ rising i = n - i
+μ-loop times tags n tracks last group rising₀ i₀ rising i = n - i
 
 -- where the loop stands, and where it began
 abbrev at : tie.After-good-row2 Inv-loop μ-loop → tie.At-loop Inv-loop μ-loop
@@ -45,7 +45,7 @@ returns c =
     let s = c .before in
     let a = s .args in
     let h : a .n ≤ 0 = omega (arith, c .if1 .taken) in
-    (sym (rows-end (a .tracks) (a .last) (a .times .now) (a .tags .now) (a .n) (s .pre .0) (s .pre .1) 0 zeroFrame h), λ q. numbers-end (a .tracks) (a .last) (a .times .now) (a .tags .now) (a .n) (s .pre .0) (s .pre .1) 0 zeroFrame 0 h)
+    (sym (rows-end (a .tracks) (a .last) (a .group) (a .times .now) (a .tags .now) (a .n) (s .pre .0) (s .pre .1) 0 zeroFrame h), λ q. numbers-end (a .tracks) (a .last) (a .group) (a .times .now) (a .tags .now) (a .n) (s .pre .0) (s .pre .1) 0 zeroFrame 0 h)
 
 shared-slice-copy-out-first : tie.Need-shared-slice-copy-out-first Inv-loop μ-loop
 shared-slice-copy-out-first c = search needs
@@ -64,7 +64,7 @@ returns-2 c =
     let g = c .before .before in
     let s = g .before .before .before .before in
     let a = s .args in
-    (c .faulty .ensures .0 ∙ sym (fail-row (a .tracks) (a .last) (a .times .now) (a .tags .now) (a .n) (s .pre .0) (s .pre .1) 0 zeroFrame (some (g .before .before .before)) (sym (g .good-row .ensures) ∙ not-true _ (c .before .if2 .taken))), λ q. both-ways q (c .faulty .ensures .1))
+    (c .faulty .ensures .0 ∙ sym (fail-row (a .tracks) (a .last) (a .group) (a .times .now) (a .tags .now) (a .n) (s .pre .0) (s .pre .1) 0 zeroFrame (some (g .before .before .before)) (sym (g .good-row .ensures) ∙ not-true _ (c .before .if2 .taken))), λ q. both-ways q (c .faulty .ensures .1))
 
 loop-holds : tie.Need-loop-holds Inv-loop μ-loop
 loop-holds c =
@@ -74,12 +74,12 @@ loop-holds c =
     let h = some (g .before .before .before) in
     let t = getD (a .times .now) 0 [] in
     let m = getD (a .tags .now) 0 [] in
-    let e : goodRow (a .tracks) (a .last) t m ≡ true = sym (g .good-row .ensures) ∙ not-false _ (c .if2 .left) in
+    let e : goodRow (a .tracks) (a .last) (a .group) t m ≡ true = sym (g .good-row .ensures) ∙ not-false _ (c .if2 .left) in
     let rest : Bool = following ltb (numberIn m) (numbersOf (drop 1 (take (a .n) (a .tags .now)))) in (
       search needs,
       h,
-      sym (rows-pass (a .tracks) (a .last) (a .times .now) (a .tags .now) (a .n) (s .pre .0) (s .pre .1) 0 zeroFrame h e (first-before (a .tracks) (a .last) t m e)),
-      ap (λ (b : Bool). (true && b) && rest) (sym (first-number (a .tracks) (a .last) t m e)) ∙ numbers-next (a .tracks) (a .last) (a .times .now) (a .tags .now) (a .n) (s .pre .0) (s .pre .1) 0 zeroFrame true h,
+      sym (rows-pass (a .tracks) (a .last) (a .group) (a .times .now) (a .tags .now) (a .n) (s .pre .0) (s .pre .1) 0 zeroFrame h e (first-before (a .tracks) (a .last) (a .group) t m e)),
+      ap (λ (b : Bool). (true && b) && rest) (sym (first-number (a .tracks) (a .last) (a .group) t m e)) ∙ numbers-next (a .tracks) (a .last) (a .group) (a .times .now) (a .tags .now) (a .n) (s .pre .0) (s .pre .1) 0 zeroFrame true h,
     )
 
 mul-time : tie.Need-mul-time Inv-loop μ-loop
@@ -107,7 +107,7 @@ returns-3 c =
     let s = start d in
     let a = s .args in
     let i = d .loop .i in
-    (c .faulty2 .ensures .0 ∙ sym (fail-row (a .tracks) (a .last) (a .times .now) (a .tags .now) (a .n) (s .pre .0) (s .pre .1) i (frameOf (getD (a .times .now) (i - 1) []) (getD (a .tags .now) (i - 1) [])) (inside r) (sym (r .good-row2 .ensures) ∙ not-true _ (c .before .if3 .taken))) ∙ d .loop .inv .2, λ q. both-ways q (c .faulty2 .ensures .1))
+    (c .faulty2 .ensures .0 ∙ sym (fail-row (a .tracks) (a .last) (a .group) (a .times .now) (a .tags .now) (a .n) (s .pre .0) (s .pre .1) i (frameOf (getD (a .times .now) (i - 1) []) (getD (a .tags .now) (i - 1) [])) (inside r) (sym (r .good-row2 .ensures) ∙ not-true _ (c .before .if3 .taken))) ∙ d .loop .inv .2, λ q. both-ways q (c .faulty2 .ensures .1))
 
 sub-j : tie.Need-sub-j Inv-loop μ-loop
 sub-j c = search needs
@@ -138,7 +138,7 @@ returns-4 c =
     let s = start d in
     let a = s .args in
     let i = d .loop .i in
-    (c .faulty3 .ensures .0 ∙ sym (fail-order (a .tracks) (a .last) (a .times .now) (a .tags .now) (a .n) (s .pre .0) (s .pre .1) i (frameOf (getD (a .times .now) (i - 1) []) (getD (a .tags .now) (i - 1) [])) (inside r) (sym (b .row-before .ensures) ∙ not-true _ (c .before .if4 .taken))) ∙ d .loop .inv .2, λ q. both-ways q (c .faulty3 .ensures .1))
+    (c .faulty3 .ensures .0 ∙ sym (fail-order (a .tracks) (a .last) (a .group) (a .times .now) (a .tags .now) (a .n) (s .pre .0) (s .pre .1) i (frameOf (getD (a .times .now) (i - 1) []) (getD (a .tags .now) (i - 1) [])) (inside r) (sym (b .row-before .ensures) ∙ not-true _ (c .before .if4 .taken))) ∙ d .loop .inv .2, λ q. both-ways q (c .faulty3 .ensures .1))
 
 number-of-requires : tie.Need-number-of-requires Inv-loop μ-loop
 number-of-requires c κs = search needs
@@ -166,8 +166,8 @@ loop-again c =
     let e : i + 1 - 1 ≡ i = omega arith in (
       search needs,
       h,
-      rw e (sym (rows-pass (a .tracks) (a .last) (a .times .now) (a .tags .now) (a .n) (s .pre .0) (s .pre .1) i (frameOf (getD (a .times .now) (i - 1) []) (getD (a .tags .now) (i - 1) [])) (inside r) (sym (r .good-row2 .ensures) ∙ not-false _ (x₃ .if3 .left)) (sym (b .row-before .ensures) ∙ not-false _ (x₄ .if4 .left))) ∙ d .loop .inv .2),
-      rw (e, c .before .number-of .ensures, c .number-of2 .ensures) (numbers-next (a .tracks) (a .last) (a .times .now) (a .tags .now) (a .n) (s .pre .0) (s .pre .1) i (frameOf (getD (a .times .now) (i - 1) []) (getD (a .tags .now) (i - 1) [])) (d .loop .rising) (inside r) ∙ d .loop .inv .3),
+      rw e (sym (rows-pass (a .tracks) (a .last) (a .group) (a .times .now) (a .tags .now) (a .n) (s .pre .0) (s .pre .1) i (frameOf (getD (a .times .now) (i - 1) []) (getD (a .tags .now) (i - 1) [])) (inside r) (sym (r .good-row2 .ensures) ∙ not-false _ (x₃ .if3 .left)) (sym (b .row-before .ensures) ∙ not-false _ (x₄ .if4 .left))) ∙ d .loop .inv .2),
+      rw (e, c .before .number-of .ensures, c .number-of2 .ensures) (numbers-next (a .tracks) (a .last) (a .group) (a .times .now) (a .tags .now) (a .n) (s .pre .0) (s .pre .1) i (frameOf (getD (a .times .now) (i - 1) []) (getD (a .tags .now) (i - 1) [])) (d .loop .rising) (inside r) ∙ d .loop .inv .3),
     )
 
 returns-5 : tie.Need-returns-5 Inv-loop μ-loop
@@ -176,8 +176,8 @@ returns-5 c =
     let s = start d in
     let a = s .args in
     let i = d .loop .i in (
-      sym (rows-end (a .tracks) (a .last) (a .times .now) (a .tags .now) (a .n) (s .pre .0) (s .pre .1) i (frameOf (getD (a .times .now) (i - 1) []) (getD (a .tags .now) (i - 1) [])) (c .loop-test .left)) ∙ d .loop .inv .2,
-      λ q. sym (d .loop .inv .3) ∙ and-both q (numbers-end (a .tracks) (a .last) (a .times .now) (a .tags .now) (a .n) (s .pre .0) (s .pre .1) i (frameOf (getD (a .times .now) (i - 1) []) (getD (a .tags .now) (i - 1) [])) (numberIn (getD (a .tags .now) (i - 1) [])) (c .loop-test .left)),
+      sym (rows-end (a .tracks) (a .last) (a .group) (a .times .now) (a .tags .now) (a .n) (s .pre .0) (s .pre .1) i (frameOf (getD (a .times .now) (i - 1) []) (getD (a .tags .now) (i - 1) [])) (c .loop-test .left)) ∙ d .loop .inv .2,
+      λ q. sym (d .loop .inv .3) ∙ and-both q (numbers-end (a .tracks) (a .last) (a .group) (a .times .now) (a .tags .now) (a .n) (s .pre .0) (s .pre .1) i (frameOf (getD (a .times .now) (i - 1) []) (getD (a .tags .now) (i - 1) [])) (numberIn (getD (a .tags .now) (i - 1) [])) (c .loop-test .left)),
     )
 
 pub examine-spec : {M : Type 1} → statement M

@@ -22,7 +22,7 @@ no-later-tags : (c : tie.Else2) → let a = c .before .before .before .before .a
 no-later-tags c = sym (c .before .no-tags .ensures) ∙ not-false _ (c .if2 .left)
 
 rows-good : (c : tie.Else3) → let a = c .before .before .before .before .before .before .before .args in
-    rowsFrom (a .tracks) (a .last) zeroFrame (take (a .n) (a .times .now)) (take (a .n) (a .tags .now)) ≡ true
+    rowsFrom (a .tracks) (a .last) (a .group) zeroFrame (take (a .n) (a .times .now)) (take (a .n) (a .tags .now)) ≡ true
 rows-good c = sym (c .before .before .examine .ensures .0) ∙ not-false _ (c .if3 .left)
 
 no-times-requires : tie.Need-no-times-requires
@@ -33,7 +33,7 @@ returns c =
     let s = c .before .before in
     let a = s .args in
     let e : allOf isZeroTime (drop (a .n) (a .times .now)) ≡ false = sym (c .before .no-times .ensures) ∙ not-true _ (c .if1 .taken) in
-    sym (frames-whole (a .n) (a .tracks) (a .last) (a .times .now) (a .tags .now) (s .pre .1) (s .pre .0) ∙ rw e)
+    sym (frames-whole (a .n) (a .tracks) (a .last) (a .group) (a .times .now) (a .tags .now) (s .pre .1) (s .pre .0) ∙ rw e)
 
 no-tags-requires : tie.Need-no-tags-requires
 no-tags-requires c κs = search needs
@@ -43,7 +43,7 @@ returns-2 c =
     let s = c .before .before .before .before in
     let a = s .args in
     let e : allOf isZeroTag (drop (a .n) (a .tags .now)) ≡ false = sym (c .before .no-tags .ensures) ∙ not-true _ (c .if2 .taken) in
-    sym (frames-whole (a .n) (a .tracks) (a .last) (a .times .now) (a .tags .now) (s .pre .1) (s .pre .0) ∙ rw (no-later-times (c .before .before), e))
+    sym (frames-whole (a .n) (a .tracks) (a .last) (a .group) (a .times .now) (a .tags .now) (s .pre .1) (s .pre .0) ∙ rw (no-later-times (c .before .before), e))
 
 examine-requires : tie.Need-examine-requires
 examine-requires c κs = search needs
@@ -54,8 +54,8 @@ returns-3 c =
     let x₂ = x .before in
     let s = x₂ .before .before .before .before in
     let a = s .args in
-    let e : rowsFrom (a .tracks) (a .last) zeroFrame (take (a .n) (a .times .now)) (take (a .n) (a .tags .now)) ≡ false = sym (x .examine .ensures .0) ∙ not-true _ (c .if3 .taken) in
-    sym (frames-whole (a .n) (a .tracks) (a .last) (a .times .now) (a .tags .now) (s .pre .1) (s .pre .0) ∙ rw (no-later-times (x₂ .before .before), no-later-tags x₂, e))
+    let e : rowsFrom (a .tracks) (a .last) (a .group) zeroFrame (take (a .n) (a .times .now)) (take (a .n) (a .tags .now)) ≡ false = sym (x .examine .ensures .0) ∙ not-true _ (c .if3 .taken) in
+    sym (frames-whole (a .n) (a .tracks) (a .last) (a .group) (a .times .now) (a .tags .now) (s .pre .1) (s .pre .0) ∙ rw (no-later-times (x₂ .before .before), no-later-tags x₂, e))
 
 returns-4 : tie.Need-returns-4
 returns-4 c =
@@ -66,14 +66,14 @@ returns-4 c =
     let a = s .args in
     let e : noRepeat (take (a .n) (numbersOf (a .tags .now))) ≡ true =
     ap noRepeat (sym (numbers-take (a .n) (a .tags .now))) ∙ rising-once 0 _ (x .examine .ensures .1 (c .if4 .taken)) in
-    sym (frames-whole (a .n) (a .tracks) (a .last) (a .times .now) (a .tags .now) (s .pre .1) (s .pre .0) ∙ rw (no-later-times (x₂ .before .before), no-later-tags x₂, rows-good x₃, e))
+    sym (frames-whole (a .n) (a .tracks) (a .last) (a .group) (a .times .now) (a .tags .now) (s .pre .1) (s .pre .0) ∙ rw (no-later-times (x₂ .before .before), no-later-tags x₂, rows-good x₃, e))
 
 distinct-requires : tie.Need-distinct-requires
 distinct-requires c κs =
     let x₃ = c .before in
     let s = x₃ .before .before .before .before .before .before .before in
     let a = s .args in
-    (omega (arith, s .pre .0, s .pre .1 .1), s .pre .0, rows-numbers (a .n) (a .tracks) (a .last) (a .times .now) (a .tags .now) (s .pre .1) (s .pre .0) (rows-good x₃))
+    (omega (arith, s .pre .0, s .pre .1 .1), s .pre .0, rows-numbers (a .n) (a .tracks) (a .last) (a .group) (a .times .now) (a .tags .now) (s .pre .1) (s .pre .0) (rows-good x₃))
 
 returns-5 : tie.Need-returns-5
 returns-5 c =
@@ -81,7 +81,7 @@ returns-5 c =
     let x₂ = x₃ .before .before .before in
     let s = x₂ .before .before .before .before in
     let a = s .args in
-    c .distinct .ensures ∙ sym (frames-whole (a .n) (a .tracks) (a .last) (a .times .now) (a .tags .now) (s .pre .1) (s .pre .0) ∙ rw (no-later-times (x₂ .before .before), no-later-tags x₂, rows-good x₃))
+    c .distinct .ensures ∙ sym (frames-whole (a .n) (a .tracks) (a .last) (a .group) (a .times .now) (a .tags .now) (s .pre .1) (s .pre .0) ∙ rw (no-later-times (x₂ .before .before), no-later-tags x₂, rows-good x₃))
 
 pub good-frames-spec : {M : Type 1} → statement M
 good-frames-spec =

@@ -33,7 +33,7 @@ returns-2 c =
     let r = x .before in
     let a = r .before .args in
     let e : (plainTime (a .time) && plainTag (a .tag)) ≡ true = sym (r .plain-rows .ensures) ∙ not-false _ (x .if1 .left) in
-    rw e (c .good-frame .ensures ∙ ap (goodFrame (a .tracks) (a .last)) (f .frame-of .ensures))
+    rw e (c .good-frame .ensures ∙ ap (goodFrame (a .tracks) (a .last) (a .group)) (f .frame-of .ensures))
 
 pub good-row-spec : {M : Type 1} → statement M
 good-row-spec =

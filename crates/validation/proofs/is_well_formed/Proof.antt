@@ -17,7 +17,7 @@ full : (c : tie.Start) → length (c .args .h .tracks) ≡ 4
 full c = mapped-length _ (c .args .h .tracks) 4 (c .good .0 .1 .1 .0 .1 .0 .1)
 
 parts : (c : tie.Else1) → let a = c .before .args in
-    wellFormedAt (a .h) (a .times .now) (a .tags .now) ≡ (headTest (a .h) && framesTest (a .h .nframes) (a .h .ntracks) (a .h .last) (a .times .now) (a .tags .now))
+    wellFormedAt (a .h) (a .times .now) (a .tags .now) ≡ (headTest (a .h) && framesTest (a .h .nframes) (a .h .ntracks) (a .h .last) (a .h .group .number) (a .times .now) (a .tags .now))
 parts c =
     let s = c .before in
     let a = s .args in

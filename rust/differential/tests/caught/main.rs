@@ -2,11 +2,13 @@
 //! Every one of them must be told from `second` within a few scripts, segments or lists of rows.
 
 mod batches;
+mod groups;
 mod segments;
 mod walks;
 
 use batches::WrongBatch;
 use differential::{run, Answers, Failure, Plan};
+use groups::WrongGroup;
 use script::{Batch, Declined, Poke, Second, Subject};
 use second::{
     micros, Branch, Fate, Frame, Maybe, Mode, Offered, Reading, Row, SegmentTrack, State, Stretch,
@@ -35,6 +37,7 @@ enum Wrong {
     AcceptsDamage,
     DeclinesPokes,
     Batch(WrongBatch),
+    Group(WrongGroup),
     Segment(WrongSegment),
     Walk(WrongWalk),
 }
@@ -80,6 +83,9 @@ impl Subject for Build {
         offered: &Offered,
         fates: &mut [Fate],
     ) -> Result<usize, u32> {
+        if let Wrong::Group(wrong) = self.wrong {
+            return wrong.append(state, offered, fates);
+        }
         let before = *state;
         let result = self.second.append(state, offered, fates);
         let Ok(count) = result else {
@@ -140,6 +146,9 @@ impl Subject for Build {
         end: f64,
         fates: &mut [Fate],
     ) -> Result<usize, u32> {
+        if let Wrong::Group(wrong) = self.wrong {
+            return wrong.remove(state, start, end, fates);
+        }
         let before = state.head;
         let result = self.second.remove(state, start, end, fates);
         if self.wrong == Wrong::SparesTheGroup {
@@ -211,11 +220,17 @@ impl Subject for Build {
     }
 
     fn abort(&mut self, state: &mut State) -> Result<(), u32> {
-        self.second.abort(state)
+        match self.wrong {
+            Wrong::Group(wrong) => wrong.abort(state),
+            _ => self.second.abort(state),
+        }
     }
 
     fn set_mode(&mut self, state: &mut State, mode: Mode) -> Result<(), u32> {
-        self.second.set_mode(state, mode)
+        match self.wrong {
+            Wrong::Group(wrong) => wrong.set_mode(state, mode),
+            _ => self.second.set_mode(state, mode),
+        }
     }
 
     fn set_window_start(&mut self, state: &mut State, seconds: f64) -> Result<(), u32> {
@@ -329,6 +344,25 @@ fn every_wrong_batch_is_caught_by_a_short_script() {
         let failure = put_to(Wrong::Batch(wrong)).expect_err("a difference");
         println!("{wrong:?}: {failure}\n");
         assert!(failure.script.len() <= 8, "{wrong:?}: {failure}");
+    }
+}
+
+#[test]
+fn every_wrong_group_is_caught_by_a_short_script() {
+    for wrong in WrongGroup::ALL {
+        let failure = put_to(Wrong::Group(wrong)).expect_err("a difference");
+        println!("{wrong:?}: {failure}\n");
+        assert!(failure.script.len() <= 8, "{wrong:?}: {failure}");
+    }
+}
+
+#[test]
+fn a_last_group_that_both_get_wrong_is_caught() {
+    for wrong in [WrongGroup::AbortsInTheLast, WrongGroup::DropsInTheLast] {
+        let failure = put_to_both(Wrong::Group(wrong));
+        let parting = failure.expect_err("no refusal").parting;
+        let due = parting.other.starts_with("in the last group: refused 9");
+        assert!(due, "{parting}");
     }
 }
 

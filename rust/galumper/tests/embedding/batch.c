@@ -28,7 +28,7 @@ static void tell_stored(void) {
     for (size_t i = 0; i < buffer.head.nframes; i++) {
         const uint32_t *tag = buffer.tags[i];
         printf("stored: track %" PRIu32 ", pts %" PRId64 ", dts %" PRId64, tag[0], buffer.times[i][0], buffer.times[i][1]);
-        printf(", duration %" PRIu32 ", flagged %" PRIu32 ", number %" PRIu32 "\n", tag[2], tag[1], tag[3]);
+        printf(", duration %" PRIu32 ", flagged %" PRIu32 ", number %" PRIu32 ", group %" PRIu32 "\n", tag[2], tag[1], tag[3], tag[4]);
     }
 }
 

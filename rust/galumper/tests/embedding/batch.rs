@@ -7,12 +7,12 @@ const WRITTEN: &str = "\
 three frames: refused 0, stop 0, accepted 3, count 2
   frame 1, cause 3
   frame 3, cause 1
-stored: track 2, pts 20000, dts 10000, duration 30000, flagged 1, number 2
+stored: track 2, pts 20000, dts 10000, duration 30000, flagged 1, number 2, group 0
 and one whose flag is 2: refused 0, stop 4, accepted 3, count 3
   frame 4, cause 3
   frame 2, cause 4
   frame 6, cause 1
-stored: track 2, pts 20000, dts 10000, duration 30000, flagged 1, number 5
+stored: track 2, pts 20000, dts 10000, duration 30000, flagged 1, number 5, group 1
 a track that is none: refused 0, stop 3, accepted 0, count 0
 no frames: refused 0, stop 0, accepted 0, count 0
 a line too few: refused 2, stop 0, accepted 0, count 0

@@ -11,8 +11,8 @@ static galumper_range ranges[GALUMPER_RANGES];
 
 static void tell(const char *call, galumper_answer answer) {
     const galumper_head *head = &buffer.head;
-    printf("%s: refused %" PRIu32 ", count %zu; %zu frames, mode %" PRIu32 ", group start %s\n", call, answer.refusal, answer.count,
-           head->nframes, head->mode, head->group.begun ? "set" : "unset");
+    printf("%s: refused %" PRIu32 ", count %zu; %zu frames, mode %" PRIu32 ", group %" PRIu32 ", its start %s\n", call,
+           answer.refusal, answer.count, head->nframes, head->mode, head->group.number, head->group.begun ? "set" : "unset");
 }
 
 static void tell_fates(const char *call, galumper_answer answer) {
@@ -72,5 +72,7 @@ int main(void) {
     tell("create without kinds", galumper_create(&buffer, NULL, 0));
     const uint8_t unknown[] = {2};
     tell("create with an unknown kind", galumper_create(&buffer, unknown, 1));
+    buffer.head.group.number = UINT32_MAX;
+    tell("abort in the last group", galumper_abort(&buffer));
     return 0;
 }

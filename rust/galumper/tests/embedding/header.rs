@@ -84,7 +84,7 @@ macro_rules! line {
 fn every_field_stands_where_the_binding_has_it() {
     let lines = [
         line!("track", Track: kind known need duration dts end),
-        line!("group", Group: begun start end),
+        line!("group", Group: begun number start end),
         line!("setting", Setting: bits micros),
         line!("settings", Settings: offset start bounded end limit),
         line!("head", Head: tracks ntracks nframes mode last group settings),

@@ -10,7 +10,7 @@
 int main(void) {
     NAME(track), AT(track, kind), AT(track, known), AT(track, need), AT(track, duration), AT(track, dts), AT(track, end);
     BYTES(track);
-    NAME(group), AT(group, begun), AT(group, start), AT(group, end), BYTES(group);
+    NAME(group), AT(group, begun), AT(group, number), AT(group, start), AT(group, end), BYTES(group);
     NAME(setting), AT(setting, bits), AT(setting, micros), BYTES(setting);
     NAME(settings), AT(settings, offset), AT(settings, start), AT(settings, bounded), AT(settings, end), AT(settings, limit);
     BYTES(settings);

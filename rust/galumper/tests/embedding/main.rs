@@ -5,6 +5,7 @@ mod calls;
 mod compiler;
 mod document;
 mod flags;
+mod former;
 mod header;
 mod held;
 mod mismatch;

@@ -6,10 +6,10 @@ use std::path::PathBuf;
 
 use crate::compiler::{build, folder, include, source, written_watched};
 
-const ABI: [&str; 2] = ["#define GALUMPER_ABI 5\n", "#define GALUMPER_ABI 6\n"];
+const ABI: [&str; 2] = ["#define GALUMPER_ABI 6\n", "#define GALUMPER_ABI 7\n"];
 const SIZE: [&str; 2] = [
-    "#define GALUMPER_SIZE 32968\n",
-    "#define GALUMPER_SIZE 16584\n",
+    "#define GALUMPER_SIZE 37064\n",
+    "#define GALUMPER_SIZE 18632\n",
 ];
 const PLACES: [&str; 2] = [
     "#define GALUMPER_PLACES 1024\n",

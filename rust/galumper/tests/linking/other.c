@@ -4,11 +4,11 @@
 #include <stdlib.h>
 
 uint32_t galumper_abi(void) {
-    return 6;
+    return 7;
 }
 
 size_t galumper_size(void) {
-    return 32968;
+    return 37064;
 }
 
 #define ENDS(call) \
