@@ -4,10 +4,11 @@
  * The program owns a buffer, a galumper_buffer of 37 KB, and lends it to each call by its address; the call works in place. The
  * library keeps nothing and allocates nothing.
  *
- * Any bits may be handed in. A buffer that is not well-formed has the call refused 1; an offered frame whose flag is neither 0
- * nor 1 has it refused 4; a segment that is not well-formed has it refused 12. What the caller owes is that each list and each
- * segment has the places that its length says, that a list lies outside the buffer, the segment and any other list, and that nothing
- * else touches what is lent during the call. A list or a segment of length 0 may be a null pointer.
+ * Any bits may be handed in. A buffer or a lump reader that is not well-formed has the call refused 1; an offered frame whose flag
+ * is neither 0 nor 1 has it refused 4; a segment that is not well-formed has it refused 12. What the caller owes is that each list, each
+ * segment, each lump and each lump buffer has the places that its length says, that a list lies outside the buffer, the segment and any
+ * other list, that lump, lump buffer and list lie outside each other, and that nothing else touches what is lent during the call. What has
+ * length 0 may be a null pointer.
  *
  * The library has no state of its own: different buffers may be used by different threads at once; one buffer is changed by one
  * thread at a time, and calls that take it as const may run side by side.
@@ -27,10 +28,10 @@ extern "C" {
 #endif
 
 /* The version of this header, of its library and of the Rust crate. */
-#define GALUMPER_VERSION "0.6.0"
+#define GALUMPER_VERSION "0.7.0"
 
 /* By these two a library belongs to this header: the number of its layout and functions, and the bytes of a galumper_buffer. */
-#define GALUMPER_ABI 6
+#define GALUMPER_ABI 7
 #define GALUMPER_SIZE 37064
 
 /* The places of the store over all tracks. */
@@ -50,6 +51,9 @@ extern "C" {
  * ranges. */
 #define GALUMPER_RANGES 1024
 
+/* The most bytes of a lump, the most of a movie fragment box in a segment that comes in lumps, and the fewest of a lump buffer. */
+#define GALUMPER_LUMP 65536
+
 /* What a track carries. */
 enum galumper_kind {
     GALUMPER_VIDEO = 0,
@@ -62,25 +66,27 @@ enum galumper_mode {
     GALUMPER_SEQUENCE = 1
 };
 
-/* Why a call is refused. A refused call changes nothing: buffer and lists stay as they were, bit for bit. Where several apply,
- * the first in the order of the call's own list below is given. */
+/* Why a call is refused. A refused call changes nothing: buffer, reader and lists stay as they were, bit for bit. Where several
+ * apply, the first in the order of the call's own list below is given. */
 enum galumper_refusal {
-    GALUMPER_DONE = 0,          /* not refused */
-    GALUMPER_ILL_FORMED = 1,    /* the buffer is not well-formed */
-    GALUMPER_SHORT_FATES = 2,   /* a fate list of fewer than 1,024 lines, or 1,088 for a batch */
-    GALUMPER_NO_TRACK = 3,      /* a track that the buffer does not have */
-    GALUMPER_FRAME_LIMITS = 4,  /* a field of a frame, offered or read from a segment, outside its limit, or such a timescale */
-    GALUMPER_SECONDS = 5,       /* a double that is NaN, infinite where it may not be, or beyond 1,000,000 either way */
-    GALUMPER_ORDER = 6,         /* a window or a removal whose start does not come before its end, or is negative: in microseconds */
-    GALUMPER_RESULT_LIMITS = 7, /* a time that would lie beyond 4,000,000,000,000 either way, with the timestamp offset added */
-    GALUMPER_FULL = 8,          /* no place for the frame, counting those that its append frees; a dropped frame needs none */
-    GALUMPER_LAST_NUMBER = 9,   /* no frame number left to give, or no group number where the call would begin a group: the last of
-                                 * either is 4,294,967,295 */
-    GALUMPER_SHORT_LIST = 10,   /* more ranges or frames than the lent list has places */
-    GALUMPER_KINDS = 11,        /* creation with no track, more than four, or an unknown kind */
-    GALUMPER_MALFORMED = 12,    /* a segment with a box that overruns, is too short, has size 0 or an unknown version; or with a movie
-                                 * fragment, a track fragment's header or a decode time missing, doubled or after a run */
-    GALUMPER_LENT_SIZE = 13,    /* what is lent has a size that the call does not take: a batch of more than 64 frames */
+    GALUMPER_DONE = 0,            /* not refused */
+    GALUMPER_ILL_FORMED = 1,      /* the buffer is not well-formed, or the lump reader is none to which bytes lead */
+    GALUMPER_SHORT_FATES = 2,     /* a fate list of fewer than 1,024 lines, or 1,088 for a batch */
+    GALUMPER_NO_TRACK = 3,        /* a track that the buffer does not have */
+    GALUMPER_FRAME_LIMITS = 4,    /* a field of a frame, offered or read from a segment, outside its limit, or such a timescale */
+    GALUMPER_SECONDS = 5,         /* a double that is NaN, infinite where it may not be, or beyond 1,000,000 either way */
+    GALUMPER_ORDER = 6,           /* a window or a removal whose start does not come before its end, or is negative: in microseconds */
+    GALUMPER_RESULT_LIMITS = 7,   /* a time that would lie beyond 4,000,000,000,000 either way, with the timestamp offset added */
+    GALUMPER_FULL = 8,            /* no place for the frame, counting those that its append frees; a dropped frame needs none */
+    GALUMPER_LAST_NUMBER = 9,     /* no frame number left to give, or no group number where the call would begin a group: the last of
+                                   * either is 4,294,967,295 */
+    GALUMPER_SHORT_LIST = 10,     /* more ranges or frames than the lent list has places */
+    GALUMPER_KINDS = 11,          /* creation with no track, more than four, or an unknown kind */
+    GALUMPER_MALFORMED = 12,      /* a segment with a box that overruns, is too short, has size 0 or an unknown version; or with a movie
+                                   * fragment, a track fragment's header or a decode time missing, doubled or after a run */
+    GALUMPER_LENT_SIZE = 13,      /* what is lent has a size that the call does not take: a batch of more than 64 frames, a lump of more than
+                                   * 65,536 bytes, or a lump buffer of fewer */
+    GALUMPER_LARGE_FRAGMENT = 14, /* a movie fragment box of more than 65,536 bytes in a segment that comes in lumps */
     /* This header's own answer to a creation, and none of the library's: header and library do not belong together. */
     GALUMPER_OTHER_LAYOUT = 255
 };
@@ -195,6 +201,18 @@ typedef struct galumper_listed_frame {
     int64_t size;            /* bytes of the frame */
 } galumper_listed_frame;
 
+/* The reader of a segment that comes in lumps: how far it has come. All zeros is a fresh one. It belongs with what is kept of the segment
+ * in the lump buffer: both together may be copied and kept, and gone on with later. No byte of it is padding. */
+typedef struct galumper_lump_reader {
+    uint8_t head[16];        /* the bytes met of a box's header, then zeros */
+    uint64_t left;           /* the bytes of a box's body still to come */
+    size_t kept;             /* the bytes of the movie fragment's body that stand in the lump buffer, from its start */
+    size_t seen;             /* how many bytes of the header were met */
+    uint32_t phase;          /* 0: in a header, or between two boxes; 1: in a body that is passed over; 2: in the body that is kept;
+                              * 3: past a size under its header, where no box can be told any more */
+    uint32_t fragments;      /* the movie fragments met, two for more */
+} galumper_lump_reader;
+
 /* What a call answers: an enum galumper_refusal, and how many lines, ranges or frames it wrote to the lent list, whose places past
  * these are not touched; of galumper_walked, which is lent none, the frames that it counts. */
 typedef struct galumper_answer {
@@ -232,6 +250,11 @@ typedef struct galumper_batched {
     galumper_batch answer;
 } galumper_batched;
 
+typedef struct galumper_lumped {
+    galumper_lump_reader reader;
+    galumper_answer answer;
+} galumper_lumped;
+
 uint32_t galumper_abi(void);
 size_t galumper_size(void);
 galumper_answered galumper_lent_create(const uint8_t *kinds, size_t ntracks, int64_t times[GALUMPER_PLACES][2],
@@ -266,6 +289,9 @@ galumper_answer galumper_lent_walked(galumper_head head, const int64_t times[GAL
                                      const uint32_t tags[GALUMPER_PLACES][5], uint32_t track, size_t places);
 galumper_answer galumper_lent_list_segment(galumper_segment_track of, const uint8_t *segment, size_t length,
                                            galumper_listed_frame *frames, size_t places);
+galumper_lumped galumper_lent_take_lump(galumper_lump_reader reader, uint8_t *buffer, size_t size, const uint8_t *lump, size_t length);
+galumper_lumped galumper_lent_take_last(galumper_lump_reader reader, galumper_segment_track of, const uint8_t *buffer, size_t size,
+                                        const uint8_t *lump, size_t length, galumper_listed_frame *frames, size_t places);
 
 /* A compiler that lays a struct out otherwise than the library reads it does not take this header. */
 #ifdef __cplusplus
@@ -288,6 +314,9 @@ GALUMPER_LAID_OUT(sizeof(galumper_answer) == 16 && offsetof(galumper_answer, cou
 GALUMPER_LAID_OUT(sizeof(galumper_answered) == 216);
 GALUMPER_LAID_OUT(sizeof(galumper_batch) == 24 && offsetof(galumper_batch, stop) == 4 && offsetof(galumper_batch, accepted) == 8);
 GALUMPER_LAID_OUT(sizeof(galumper_batched) == 224);
+GALUMPER_LAID_OUT(sizeof(galumper_lump_reader) == 48 && offsetof(galumper_lump_reader, left) == 16);
+GALUMPER_LAID_OUT(offsetof(galumper_lump_reader, kept) == 24 && offsetof(galumper_lump_reader, phase) == 40);
+GALUMPER_LAID_OUT(sizeof(galumper_lumped) == 64);
 GALUMPER_LAID_OUT(sizeof(galumper_reading) == 32 && offsetof(galumper_reading, offset) == 8);
 #undef GALUMPER_LAID_OUT
 
@@ -301,8 +330,8 @@ static inline galumper_answer galumper_kept(galumper_buffer *buffer, galumper_an
 
 /* ---- the calls */
 
-/* Whether the library that is linked belongs to this header. A creation asks it too; a program that loads buffers, or lists a segment
- * before it creates one, asks it first. */
+/* Whether the library that is linked belongs to this header. A creation asks it too; a program that loads buffers, or lists a segment or
+ * takes a lump before it creates one, asks it first. */
 static inline bool galumper_matches(void) {
     return galumper_abi() == GALUMPER_ABI && galumper_size() == GALUMPER_SIZE;
 }
@@ -425,6 +454,31 @@ static inline galumper_answer galumper_list_segment(galumper_segment_track of, c
     return galumper_lent_list_segment(of, length ? segment : &empty, length, places ? frames : &none, places);
 }
 
+/* A fresh reader: all zeros. */
+galumper_lump_reader galumper_fresh_reader(void);
+
+/* Takes a lump of a segment that comes cut anywhere: at most GALUMPER_LUMP bytes, or none. `reader` and `buffer` are as the call before
+ * left them, at first a fresh reader and any bytes. The buffer has at least GALUMPER_LUMP bytes; those past the first so many are never
+ * touched. With `last` it is told that no more comes: the frames are listed as galumper_list_segment lists those of the whole segment,
+ * the reader is fresh, and the buffer is not written to. Until then nothing is listed, and neither `of` nor the list is looked at. A call
+ * that is refused has taken no byte of its lump. 14 is given for a movie fragment box of more than GALUMPER_LUMP bytes, with the lump that
+ * has the last byte of its size; 12, 4 and 10 are given with the end alone. Refused 1, 13, 14, 12, 4, 10. */
+static inline galumper_answer galumper_take_lump(galumper_lump_reader *reader, galumper_segment_track of, uint8_t *buffer, size_t size,
+                                                 const uint8_t *lump, size_t length, bool last, galumper_listed_frame *frames,
+                                                 size_t places) {
+    const uint8_t empty = 0;
+    uint8_t unkept = 0;
+    galumper_listed_frame none;
+    uint8_t *kept = size ? buffer : &unkept;
+    const uint8_t *bytes = length ? lump : &empty;
+    const galumper_lumped lumped = last ? galumper_lent_take_last(*reader, of, kept, size, bytes, length, places ? frames : &none, places)
+                                        : galumper_lent_take_lump(*reader, kept, size, bytes, length);
+    if (lumped.answer.refusal == GALUMPER_DONE) {
+        *reader = lumped.reader;
+    }
+    return lumped.answer;
+}
+
 /* ---- what was answered, read */
 
 /* Whether an instant is in one of the first `count` ranges of a list. */
@@ -441,7 +495,7 @@ static inline bool galumper_held(const galumper_range *ranges, size_t count, int
 static inline const char *galumper_refusal_name(uint32_t refusal) {
     switch (refusal) {
     case GALUMPER_DONE: return "done";
-    case GALUMPER_ILL_FORMED: return "the buffer is not well-formed";
+    case GALUMPER_ILL_FORMED: return "the buffer or lump reader is not well-formed";
     case GALUMPER_SHORT_FATES: return "the fate list has too few lines";
     case GALUMPER_NO_TRACK: return "the buffer has no such track";
     case GALUMPER_FRAME_LIMITS: return "a frame or timescale is outside the limits";
@@ -454,6 +508,7 @@ static inline const char *galumper_refusal_name(uint32_t refusal) {
     case GALUMPER_KINDS: return "no track, more than four, or an unknown kind";
     case GALUMPER_MALFORMED: return "the segment is not well-formed";
     case GALUMPER_LENT_SIZE: return "what is lent has a size that the call does not take";
+    case GALUMPER_LARGE_FRAGMENT: return "a movie fragment is too large for lumps";
     case GALUMPER_OTHER_LAYOUT: return "header and library do not belong together";
     default: return "unknown refusal";
     }

@@ -1,5 +1,4 @@
 pub mod RowLaws
-pub mod PartLaws
 pub mod BoundLaws
 pub mod AnswerLaws
 pub mod EachLaws

@@ -106,6 +106,7 @@ pub enum Refusal {
     Kinds,
     Malformed, // a segment; this and what follows are of document 02
     LentSize, // what is lent has a size that the call does not take
+    LargeFragment, // a movie fragment box over 65,536 bytes, in lumps
 }
 
 // The number that the table gives it.
@@ -126,6 +127,7 @@ pub fn refusal_number(why: Refusal) -> u32
         Refusal::Kinds => 11,
         Refusal::Malformed => 12,
         Refusal::LentSize => 13,
+        Refusal::LargeFragment => 14,
     }
 }
 

@@ -15,11 +15,14 @@ use Rattle.buffer_state.specs.Ranges.{Range}
 use Rattle.buffer_state.specs.Refusals.{Result, refused, done}
 use Rattle.buffer_laws.proofs.AnswerLaws.{Leaves, LeavesBatch}
 use Rattle.ranges.specs.Bars.{Reported}
+use Rattle.lumps.specs.Lumps.{Taken, lumpedOf}
+use Rattle.lumps.specs.declared.LumpReader.{LumpReader}
 use Rattle.galumper.specs.declared.Answered.{Answered}
 use Rattle.galumper.specs.declared.FlatAnswer.{FlatAnswer}
 use Rattle.galumper.specs.declared.FlatBatched.{FlatBatched}
 use Rattle.galumper.specs.declared.FlatHead.{FlatHead}
-use Rattle.galumper.specs.Calls.{handedBack, countedOut, outcomeOut, batchedOut, batchOut, reportOut}
+use Rattle.galumper.specs.declared.FlatLumpReader.{FlatLumpReader}
+use Rattle.galumper.specs.Calls.{handedBack, countedOut, outcomeOut, batchedOut, batchOut, reportOut, lumpedOut, lumpOut}
 
 -- ---- abort and the setters
 
@@ -71,3 +74,9 @@ pub reported : (lent : List (List ℤ)) (result : Head → Result (List Range)) 
     → (out ≡ reportOut (rangeCount (result read))) × (after ≡ rangesAfter (result read) lent)
 reported lent result h read r after out e a k =
     (k ∙ ap reportOut (a .answer ∙ ap (λ (t : Head). rangeCount (result t)) e), a .list ∙ ap (λ (t : Head). rangesAfter (result t) lent) e)
+
+-- ---- a lump
+
+pub lump-out : (c : FlatLumpReader) (r : LumpReader) (x : Result Taken) → lumpedOut c (lumpedOf r x .answer) (lumpedOf r x .reader) ≡ lumpOut c x
+lump-out c r (refused why) = refl
+lump-out c r (done t) = refl

@@ -10,7 +10,7 @@ use lib.Dec.{ltb, eqb}
 use lib.IntN.{ℤ}
 use lib.Ieee.{binary64, top}
 use lib.ListN.{length}
-use borrow.Author.Tests.{leb-true, eqb-true, eqb-false}
+use borrow.Author.Tests.{leb-true, eqb-true, eqb-false, ne-eqb}
 use Rattle.laws.proofs.BoolLaws.{split, and-left, and-right, and-both}
 use Rattle.seconds.proofs.NumberLaws.{Number, bits-back, bits-number, bits-kept}
 use Rattle.buffer_state.specs.declared.Head.{Head}
@@ -30,11 +30,18 @@ use Rattle.buffer_state.specs.Refusals.{Result, refused}
 use Rattle.buffer_state.specs.WellFormed.{allOf, goodTracks, goodBuffer}
 use Rattle.buffer_laws.proofs.KeptLaws.{EndHas, Keeps}
 use Rattle.buffer_laws.proofs.LentLaws.{ill-formed-refused}
+use Rattle.lumps.specs.Lumps.{Taken, tested}
+use Rattle.lumps.specs.declared.LumpReader.{LumpReader}
+use Rattle.lumps.specs.declared.Phase.{Phase}
+use Rattle.lumps.specs.declared.Phase.the-variants.{Heading, Passing, Keeping, Stuck, Large}
+use Rattle.lumps.proofs.LumpLaws.{tested-ill}
+use Rattle.lumps.proofs.ReaderLaws.{large-ill}
 use Rattle.galumper.specs.declared.FlatHead.{FlatHead}
+use Rattle.galumper.specs.declared.FlatLumpReader.{FlatLumpReader}
 use Rattle.galumper.specs.declared.FlatOffered.{FlatOffered}
 use Rattle.galumper.specs.declared.FlatSettings.{FlatSettings}
 use Rattle.galumper.specs.declared.FlatTrack.{FlatTrack}
-use Rattle.galumper.specs.Flat.{isDouble, isFlag, flagIn, flagOut, modeIn, modeOut, endIn, boundedOut, endOut, trackIn, trackOut, settingsIn, settingsOut, offeredIn, plainTrack, plainEnd, plainSettings, plain, headOut, headWith, headIn}
+use Rattle.galumper.specs.Flat.{isDouble, isFlag, flagIn, flagOut, modeIn, modeOut, endIn, boundedOut, endOut, trackIn, trackOut, settingsIn, settingsOut, offeredIn, phaseIn, phaseOut, readerIn, readerOut, plainTrack, plainEnd, plainSettings, plain, headOut, headWith, headIn}
 
 -- ---- a number
 
@@ -243,3 +250,20 @@ flag-refused lent f b spoilt long known =
     let duration = ap (λ (t : Bool). goodDuration (cond t (f .duration) 0)) spoilt in
     let unfit : offerable (offeredIn f) ≡ false = and-fails (offeredTime (f .pts)) _ (and-fails (offeredTime (f .dts)) _ duration) in
     rw (long, known, unfit)
+
+-- ---- a reader of a segment in lumps
+
+phase-back : (p : Phase) → phaseIn (phaseOut p) ≡ p
+phase-back Heading = refl
+phase-back Passing = refl
+phase-back Keeping = refl
+phase-back Stuck = refl
+phase-back Large = refl
+
+pub reader-back : (r : LumpReader) → readerIn (readerOut r) ≡ r
+reader-back r = let e = phase-back (r .phase) in λ j. record { phase = e j; head = r .head; seen = r .seen; left = r .left; fragments = r .fragments; kept = r .kept }
+
+-- a number that is no phase has the call refused 1
+pub stray-phase : (c : FlatLumpReader) (buffer lump : List ℕ) (x : Result Taken) → 3 < c .phase → tested (readerIn c) buffer lump x ≡ refused IllFormed
+stray-phase c buffer lump x h =
+    tested-ill (readerIn c) buffer lump x (large-ill (readerIn c) (rw (ne-eqb (c .phase) 0 (λ e. absurd (omega arith)), ne-eqb (c .phase) 1 (λ e. absurd (omega arith)), ne-eqb (c .phase) 2 (λ e. absurd (omega arith)), ne-eqb (c .phase) 3 (λ e. absurd (omega arith)))))

@@ -23,13 +23,19 @@ use Rattle.buffer_state.specs.Batch as Rows
 use Rattle.buffer_state.specs.Batch.{Batch}
 use Rattle.buffer_state.specs.Lent.{headOf}
 use Rattle.buffer_state.specs.Refusals.{Result, refused, done, refusalNumber, stopNumber}
+use Rattle.lumps.specs.Lumps.{Taken, lastResult}
+use Rattle.lumps.specs.Readers.{readerOf}
+use Rattle.lumps.specs.declared.LumpReader.{LumpReader}
 use Rattle.galumper.specs.declared.Answered.{Answered}
 use Rattle.galumper.specs.declared.FlatAnswer.{FlatAnswer}
 use Rattle.galumper.specs.declared.FlatBatched.{FlatBatched}
 use Rattle.galumper.specs.declared.FlatHead.{FlatHead}
+use Rattle.galumper.specs.declared.FlatLumped.{FlatLumped}
+use Rattle.galumper.specs.declared.FlatLumpReader.{FlatLumpReader}
 use Rattle.galumper.specs.declared.FlatOffered.{FlatOffered}
+use Rattle.galumper.specs.declared.FlatSegmentTrack.{FlatSegmentTrack}
 use Rattle.galumper.specs.declared.Reading.{Reading}
-use Rattle.galumper.specs.Flat.{headIn, headOut, offeredIn}
+use Rattle.galumper.specs.Flat.{headIn, headOut, offeredIn, segmentTrackIn, readerIn, readerOut}
 
 -- the head as it came, with the refusal's number
 abbrev pub refusedWith : FlatHead → ℕ → Answered
@@ -87,11 +93,26 @@ abbrev pub batchOut : FlatHead → Result Batch → FlatBatched
 batchOut c (refused why) = wholeRefused c (refusalNumber why)
 batchOut c (done r) = acceptedWith (headOf (r .outcome .after)) (r .accepted) (length (r .outcome .lines)) (r .stop)
 
--- ---- the reports and the settings
+-- ---- the reports
 
 abbrev pub reportOut : Count → FlatAnswer
 reportOut (Count.Done n) = record { refusal = 0; count = n }
 reportOut (Count.Refused why) = record { refusal = refusalNumber why; count = 0 }
+
+-- ---- a lump: after a refusal the reader as it came
+
+abbrev pub lumpedOut : FlatLumpReader → Count → LumpReader → FlatLumped
+lumpedOut c (Count.Done n) r = record { reader = readerOut r; answer = record { refusal = 0; count = n } }
+lumpedOut c (Count.Refused why) r = record { reader = c; answer = record { refusal = refusalNumber why; count = 0 } }
+
+abbrev pub lastFlat : FlatSegmentTrack → ℕ → FlatLumpReader → List ℕ → List ℕ → Result Taken
+lastFlat of places c = lastResult (segmentTrackIn of) places (readerIn c)
+
+abbrev pub lumpOut : FlatLumpReader → Result Taken → FlatLumped
+lumpOut c (refused why) = record { reader = c; answer = record { refusal = refusalNumber why; count = 0 } }
+lumpOut c (done t) = record { reader = readerOut (readerOf (t .reading)); answer = record { refusal = 0; count = length (t .rows) } }
+
+-- ---- the settings, read
 
 abbrev pub readingOut : Read → Reading
 readingOut (Read.Bounded offset start end) = record { refusal = 0; bounded = 1; offset = offset; start = start; end = end }

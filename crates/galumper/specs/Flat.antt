@@ -20,8 +20,12 @@ use Rattle.buffer_state.specs.declared.WindowEnd.the-variants.{Unbounded, At}
 use Rattle.buffer_state.specs.Limits.{places}
 use Rattle.buffer_state.specs.WellFormed.{allOf}
 use Rattle.segments.specs.declared.SegmentTrack.{SegmentTrack}
+use Rattle.lumps.specs.declared.LumpReader.{LumpReader}
+use Rattle.lumps.specs.declared.Phase.{Phase}
+use Rattle.lumps.specs.declared.Phase.the-variants.{Heading, Passing, Keeping, Stuck, Large}
 use Rattle.galumper.specs.declared.FlatGroup.{FlatGroup}
 use Rattle.galumper.specs.declared.FlatHead.{FlatHead}
+use Rattle.galumper.specs.declared.FlatLumpReader.{FlatLumpReader}
 use Rattle.galumper.specs.declared.FlatOffered.{FlatOffered}
 use Rattle.galumper.specs.declared.FlatSegmentTrack.{FlatSegmentTrack}
 use Rattle.galumper.specs.declared.FlatSetting.{FlatSetting}
@@ -32,7 +36,7 @@ use Rattle.galumper.specs.declared.FlatTrack.{FlatTrack}
 
 -- its number, which the header has too
 abbrev pub abi : ℕ
-abi = 6
+abi = 7
 
 -- the bytes of a head, and of 1,024 rows of two numbers of 8 bytes and five of 4
 abbrev pub bufferSize : ℕ
@@ -131,6 +135,25 @@ segmentTrackIn f = record {
   timescale = f .timescale;
   defaults = record { duration = f .duration; size = f .size; flags = f .flags };
 }
+
+-- ---- a reader of a segment in lumps: its phase as a number, the rest as it is
+
+-- a number that is no phase is read as the one in which no reader is handed out, so that the call is refused 1
+abbrev pub phaseIn : ℕ → Phase
+phaseIn n = cond (eqb n 0) Heading (cond (eqb n 1) Passing (cond (eqb n 2) Keeping (cond (eqb n 3) Stuck Large)))
+
+abbrev pub phaseOut : Phase → ℕ
+phaseOut Heading = 0
+phaseOut Passing = 1
+phaseOut Keeping = 2
+phaseOut Stuck = 3
+phaseOut Large = 4
+
+abbrev pub readerIn : FlatLumpReader → LumpReader
+readerIn c = record { phase = phaseIn (c .phase); head = c .head; seen = c .seen; left = c .left; fragments = c .fragments; kept = c .kept }
+
+abbrev pub readerOut : LumpReader → FlatLumpReader
+readerOut r = record { head = r .head; left = r .left; kept = r .kept; seen = r .seen; phase = phaseOut (r .phase); fragments = r .fragments }
 
 -- ---- whether each number of a flat head is one of its kind
 

@@ -13,8 +13,11 @@ ghost use Rattle.buffer_state.specs.declared.Mode.the-variants.{Segments, Seque
 ghost use Rattle.buffer_state.specs.Settings.{create};
 ghost use Rattle.buffer_state.specs.WellFormed.{allOf};
 ghost use Rattle.segments.specs.Segments.{listSegment, rowCount, rowsAfter};
-ghost use Rattle.galumper.specs.Calls.{refusedWith, doneWith, changedOut, handedBack, createdOut, countedOut, outcomeOut, appendFlat, removeFlat, wholeRefused, acceptedWith, batchedOut, batchFlat, batchOut, reportOut, readingOut};
-ghost use Rattle.galumper.specs.Flat.{abi, bufferSize, flagOut, modeIn, modeOut, endIn, boundedOut, endOut, trackIn, trackOut, groupIn, groupOut, settingIn, settingOut, settingsIn, settingsOut, durationIn, offeredIn, segmentTrackIn, plainTrack, plainEnd, plainSettings, plain, headIn, headOut};
+ghost use Rattle.lumps.specs.Lumps.{moreResult, bufferAfter, framesAfter};
+ghost use Rattle.lumps.specs.Readers.{readerOf};
+ghost use Rattle.lumps.specs.Readings.{fresh};
+ghost use Rattle.galumper.specs.Calls.{refusedWith, doneWith, changedOut, handedBack, createdOut, countedOut, outcomeOut, appendFlat, removeFlat, wholeRefused, acceptedWith, batchedOut, batchFlat, batchOut, reportOut, lumpedOut, lastFlat, lumpOut, readingOut};
+ghost use Rattle.galumper.specs.Flat.{abi, bufferSize, flagOut, modeIn, modeOut, endIn, boundedOut, endOut, trackIn, trackOut, groupIn, groupOut, settingIn, settingOut, settingsIn, settingsOut, durationIn, offeredIn, segmentTrackIn, phaseIn, phaseOut, readerIn, readerOut, plainTrack, plainEnd, plainSettings, plain, headIn, headOut};
 use buffer_state::Accepted;
 use buffer_state::Answer;
 use buffer_state::Count;
@@ -32,6 +35,8 @@ use buffer_state::Times;
 use buffer_state::Track;
 use buffer_state::WindowEnd;
 use fragments::Defaults;
+use lumps::LumpReader;
+use lumps::Phase;
 use segments::SegmentTrack;
 
 // ---- what C sees
@@ -54,6 +59,17 @@ pub struct FlatSegmentTrack {
     pub duration: u32,
     pub size: u32,
     pub flags: u32,
+}
+
+// A reader of a segment in lumps. Its phase is 0 to 3: in a header, in a body that is passed over, in one that is kept, stuck.
+#[repr(C)]
+pub struct FlatLumpReader {
+    pub head: [u8; 16],
+    pub left: u64,
+    pub kept: usize,
+    pub seen: usize,
+    pub phase: u32,
+    pub fragments: u32,
 }
 
 #[repr(C)]
@@ -130,6 +146,13 @@ pub struct FlatBatch {
 pub struct FlatBatched {
     pub head: FlatHead,
     pub answer: FlatBatch,
+}
+
+// What a lump answers, with the reader after it.
+#[repr(C)]
+pub struct FlatLumped {
+    pub reader: FlatLumpReader,
+    pub answer: FlatAnswer,
 }
 
 // What reading the settings answers: the doubles as they were given.
@@ -361,6 +384,70 @@ fn segment_track_in(f: FlatSegmentTrack) -> SegmentTrack
     }
 }
 
+// ---- a reader, in and out
+
+// A number that is no phase stands for the one in which no reader is handed out.
+fn phase_in(n: u32) -> Phase
+    ensures { λ r. ⌜ r ≡ phaseIn n ⌝ }
+{
+    if n == 0 {
+        return Phase::Heading;
+    }
+    if n == 1 {
+        return Phase::Passing;
+    }
+    if n == 2 {
+        return Phase::Keeping;
+    }
+    if n == 3 {
+        return Phase::Stuck;
+    }
+    Phase::Large
+}
+
+fn phase_out(phase: Phase) -> u32
+    ensures { λ r. ⌜ r ≡ phaseOut phase ⌝ }
+{
+    match phase {
+        Phase::Heading => 0,
+        Phase::Passing => 1,
+        Phase::Keeping => 2,
+        Phase::Stuck => 3,
+        Phase::Large => 4,
+    }
+}
+
+fn reader_in(c: FlatLumpReader) -> LumpReader
+    ensures { λ r. ⌜ r ≡ readerIn c ⌝ }
+{
+    let phase = phase_in(c.phase);
+    let head = c.head;
+    LumpReader {
+        phase,
+        head,
+        seen: c.seen,
+        left: c.left,
+        fragments: c.fragments,
+        kept: c.kept,
+    }
+}
+
+fn reader_out(r: LumpReader) -> FlatLumpReader
+    ensures { λ c. ⌜ c ≡ readerOut r ⌝ }
+{
+    let p = r.phase;
+    let phase = phase_out(p);
+    let head = r.head;
+    FlatLumpReader {
+        head,
+        left: r.left,
+        kept: r.kept,
+        seen: r.seen,
+        phase,
+        fragments: r.fragments,
+    }
+}
+
 // ---- whether each number of a flat head is one of its kind
 
 fn plain_track(t: FlatTrack) -> bool
@@ -556,6 +643,28 @@ fn report_out(answer: Count) -> FlatAnswer
     }
 }
 
+// After a refusal the reader as it came.
+fn lumped_out(c: FlatLumpReader, answer: Count, r: LumpReader) -> FlatLumped
+    ensures { λ a. ⌜ a ≡ lumpedOut c answer r ⌝ }
+{
+    match answer {
+        Count::Done(n) => FlatLumped {
+            reader: reader_out(r),
+            answer: FlatAnswer {
+                refusal: 0,
+                count: n,
+            },
+        },
+        Count::Refused(why) => FlatLumped {
+            reader: c,
+            answer: FlatAnswer {
+                refusal: buffer_state::refusal_number(why),
+                count: 0,
+            },
+        },
+    }
+}
+
 fn reading_out(answer: Read) -> Reading
     ensures { λ r. ⌜ r ≡ readingOut answer ⌝ }
 {
@@ -591,7 +700,7 @@ fn reading_out(answer: Read) -> Reading
 pub extern "C" fn galumper_abi() -> u32
     ensures { λ r. ⌜ r ≡ abi ⌝ }
 {
-    6
+    7
 }
 
 // The bytes of a buffer: a head and its arrays.
@@ -832,4 +941,49 @@ pub extern "C" fn galumper_lent_list_segment(
 {
     let track = segment_track_in(of);
     report_out(segment_reader::list_segment(track, segment, list))
+}
+
+// A reader to which no byte has come.
+#[no_mangle]
+pub extern "C" fn galumper_fresh_reader() -> FlatLumpReader
+    ensures { λ r. ⌜ r ≡ readerOut (readerOf fresh) ⌝ }
+{
+    reader_out(lumps::fresh_reader())
+}
+
+// A lump of a segment after which more comes.
+#[no_mangle]
+pub extern "C" fn galumper_lent_take_lump(
+    c: FlatLumpReader,
+    buffer: &mut [u8],
+    lump: &[u8],
+) -> FlatLumped
+    ensures answer { λ r. ⌜ r ≡ lumpOut c (moreResult (readerIn c) (now (buffer .entry)) (now (lump .entry))) ⌝ }
+    ensures buffer { λ _. ⌜ now (buffer .exit) ≡ bufferAfter (moreResult (readerIn c) (now (buffer .entry)) (now (lump .entry))) (now (buffer .entry)) ⌝ }
+{
+    let reader = reader_in(c);
+    let r = lumps::take_more(reader, buffer, lump);
+    let answer = r.answer;
+    let q = r.reader;
+    lumped_out(c, answer, q)
+}
+
+// The last lump of a segment.
+#[no_mangle]
+pub extern "C" fn galumper_lent_take_last(
+    c: FlatLumpReader,
+    of: FlatSegmentTrack,
+    buffer: &[u8],
+    lump: &[u8],
+    list: &mut [[i64; 6]],
+) -> FlatLumped
+    ensures answer { λ r. ⌜ r ≡ lumpOut c (lastFlat of (length (now (list .entry))) c (now (buffer .entry)) (now (lump .entry))) ⌝ }
+    ensures frames { λ _. ⌜ now (list .exit) ≡ framesAfter (lastFlat of (length (now (list .entry))) c (now (buffer .entry)) (now (lump .entry))) (now (list .entry)) ⌝ }
+{
+    let track = segment_track_in(of);
+    let reader = reader_in(c);
+    let r = lumps::take_last(track, reader, buffer, lump, list);
+    let answer = r.answer;
+    let q = r.reader;
+    lumped_out(c, answer, q)
 }

@@ -22,7 +22,7 @@ use Rattle.buffer_state.specs.declared.Head.{Head}
 use Rattle.buffer_state.specs.declared.Read.{Read}
 use Rattle.buffer_state.specs.declared.Read.the-variants as Read
 use Rattle.buffer_state.specs.declared.Refusal.{Refusal}
-use Rattle.buffer_state.specs.declared.Refusal.the-variants.{IllFormed, ShortFates, NoTrack, FrameLimits, Seconds, Order, ResultLimits, Full, LastNumber, ShortList, Kinds, Malformed, LentSize}
+use Rattle.buffer_state.specs.declared.Refusal.the-variants.{IllFormed, ShortFates, NoTrack, FrameLimits, Seconds, Order, ResultLimits, Full, LastNumber, ShortList, Kinds, Malformed, LentSize, LargeFragment}
 use Rattle.buffer_state.specs.declared.Stop.{Stop}
 use Rattle.buffer_state.specs.declared.Stop.the-variants.{Nothing, By}
 use Rattle.buffer_state.specs.Answers.{changed, counted, zeroHead, batched, outcomeOf}
@@ -65,6 +65,7 @@ numbered ShortList = record { some = refl; back = refl }
 numbered Kinds = record { some = refl; back = refl }
 numbered Malformed = record { some = refl; back = refl }
 numbered LentSize = record { some = refl; back = refl }
+numbered LargeFragment = record { some = refl; back = refl }
 
 -- a refusal's number is read as that refusal, in an answer of any kind
 refused-back : {A : Type 0} (unless : A) (by : Refusal → A) (why : Refusal)

@@ -16,7 +16,7 @@ use Rattle.buffer_state.specs.declared.Mode.the-variants.{Segments, Sequence}
 use Rattle.buffer_state.specs.declared.Read.{Read}
 use Rattle.buffer_state.specs.declared.Read.the-variants as Read
 use Rattle.buffer_state.specs.declared.Refusal.{Refusal}
-use Rattle.buffer_state.specs.declared.Refusal.the-variants.{IllFormed, ShortFates, NoTrack, FrameLimits, Seconds, Order, ResultLimits, Full, LastNumber, ShortList, Kinds, Malformed, LentSize}
+use Rattle.buffer_state.specs.declared.Refusal.the-variants.{IllFormed, ShortFates, NoTrack, FrameLimits, Seconds, Order, ResultLimits, Full, LastNumber, ShortList, Kinds, Malformed, LentSize, LargeFragment}
 use Rattle.buffer_state.specs.declared.Stop.{Stop}
 use Rattle.buffer_state.specs.declared.Stop.the-variants.{Nothing, By}
 use Rattle.account.specs.Made as Account
@@ -97,7 +97,7 @@ numbersIn (walked track room) g = g .refusal ∷ g .count ∷ []
 -- The refusal of a number of the table. That the number is the table's, and not one that is only taken for it, is a part of the claim.
 abbrev pub refusalOf : ℕ → Refusal
 refusalOf n =
-    getD (IllFormed ∷ ShortFates ∷ NoTrack ∷ FrameLimits ∷ Seconds ∷ Order ∷ ResultLimits ∷ Full ∷ LastNumber ∷ ShortList ∷ Kinds ∷ Malformed ∷ LentSize ∷ [])
+    getD (IllFormed ∷ ShortFates ∷ NoTrack ∷ FrameLimits ∷ Seconds ∷ Order ∷ ResultLimits ∷ Full ∷ LastNumber ∷ ShortList ∷ Kinds ∷ Malformed ∷ LentSize ∷ LargeFragment ∷ [])
     (n - 1) IllFormed
 
 abbrev pub countOf : FlatAnswer → Count

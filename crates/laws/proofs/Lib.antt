@@ -1,4 +1,5 @@
 pub mod BoolLaws
 pub mod IntLaws
 pub mod ListLaws
+pub mod PartLaws
 pub mod WordLaws

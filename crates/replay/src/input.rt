@@ -7,6 +7,10 @@ const NEWLINE: u8 = 10;
 
 const RETURN: u8 = 13;
 
+pub const ROOM: usize = 131328; // one byte more than a line may have; a lump of 65,537 bytes, which is one too many, can be said in it
+
+pub type Line = [u8; ROOM];
+
 // What was read and not yet taken stands in the chunk from one place up to another. The line that is being read has a length; it is
 // whole once its newline is found, or the input ended.
 pub struct Reading {
@@ -64,7 +68,7 @@ fn take(p: &[u8], line: &mut [u8], n: usize) -> usize {
 }
 
 // What the chunk has of the line, up to a newline, which is left out.
-fn more(r: Reading, chunk: &[u8; 4096], line: &mut [u8; 131072]) -> Reading
+fn more(r: Reading, chunk: &[u8; 4096], line: &mut Line) -> Reading
     requires { ⌜ (r .from ≤ r .to) × (r .to ≤ 4096) ⌝ }
     ensures { λ q. ⌜ (q .from ≤ q .to) × (q .to ≤ 4096) ⌝ }
 {
@@ -90,7 +94,7 @@ fn more(r: Reading, chunk: &[u8; 4096], line: &mut [u8; 131072]) -> Reading
     }
 }
 
-fn step(r: Reading, chunk: &mut [u8; 4096], line: &mut [u8; 131072]) -> Reading
+fn step(r: Reading, chunk: &mut [u8; 4096], line: &mut Line) -> Reading
     requires { ⌜ (r .from ≤ r .to) × (r .to ≤ 4096) ⌝ }
     ensures { λ q. ⌜ (q .from ≤ q .to) × (q .to ≤ 4096) ⌝ }
 {
@@ -99,7 +103,7 @@ fn step(r: Reading, chunk: &mut [u8; 4096], line: &mut [u8; 131072]) -> Reading
 }
 
 // The next line, without its newline. A proved loop has to end, and nothing says that a line does: the turns are more than any run has.
-pub fn next_line(r: Reading, chunk: &mut [u8; 4096], line: &mut [u8; 131072]) -> Reading
+pub fn next_line(r: Reading, chunk: &mut [u8; 4096], line: &mut Line) -> Reading
     requires { ⌜ (r .from ≤ r .to) × (r .to ≤ 4096) ⌝ }
     ensures { λ q. ⌜ (q .from ≤ q .to) × (q .to ≤ 4096) ⌝ }
 {

@@ -6,8 +6,10 @@ mod answers;
 mod batches;
 mod calls;
 mod input;
+mod lump;
 mod marks;
 mod segment;
+mod segment_words;
 mod slot_calls;
 mod unread;
 
@@ -15,6 +17,9 @@ use batches::Opened;
 use buffer_state::PLACES;
 use buffer_state::Tags;
 use buffer_state::Times;
+use input::Line;
+use lump::Buffer;
+use lumps::LumpReader;
 use script::words;
 use script::words::Words;
 use slots::Batch;
@@ -141,7 +146,7 @@ fn begin_batch(
 }
 
 // A line on the store of the slot in use, with the saved one beside it.
-fn answer(
+fn on_session(
     s: Session,
     line: &[u8],
     w: Words,
@@ -173,6 +178,57 @@ fn answer(
     slots::with_used(s, slot)
 }
 
+// ---- the lines
+
+// What is kept from line to line: the session, and the reader of lumps, which needs nothing of it.
+pub struct Standing {
+    pub session: Session,
+    pub reader: LumpReader,
+}
+
+fn fresh() -> Standing {
+    let session = slots::fresh();
+    let reader = lumps::fresh_reader();
+    Standing { session, reader }
+}
+
+// A line for the reader of lumps, or for the session.
+fn answer(
+    standing: Standing,
+    line: &[u8],
+    w: Words,
+    rows: &[[i64; 6]],
+    buffer: &mut Buffer,
+    times: &mut Times,
+    tags: &mut Tags,
+    saved_times: &mut Times,
+    saved_tags: &mut Tags,
+    out: &mut Output,
+) -> Standing {
+    let mut next = standing;
+    let name = words::word(line, w, 0);
+    if check::same(name, b"lump") {
+        next.reader = lump::call(standing.reader, line, w, buffer, out);
+        return next;
+    }
+    if check::same(name, b"lump-fresh") {
+        next.reader = lump::fresh(standing.reader, w, out);
+        return next;
+    }
+    next.session = on_session(
+        standing.session,
+        line,
+        w,
+        rows,
+        times,
+        tags,
+        saved_times,
+        saved_tags,
+        out,
+    );
+    next
+}
+
 fn blank(line: &[u8]) -> bool {
     if line.len() == 0 {
         return true;
@@ -199,38 +255,55 @@ fn on_frame(
 
 // A line, which is cut off where it fills its room.
 fn on_line(
-    s: Session,
+    standing: Standing,
     line: &[u8],
     cut: bool,
     rows: &mut [[i64; 6]; 65],
+    buffer: &mut Buffer,
     times: &mut Times,
     tags: &mut Tags,
     saved_times: &mut Times,
     saved_tags: &mut Tags,
     out: &mut Output,
-) -> Session {
+) -> Standing {
     if blank(line) {
-        return s;
+        return standing;
     }
+    let mut next = standing;
+    let s = standing.session;
     let w = words::words_of(line);
     if 0 < s.batch.left && check::same(words::word(line, w, 0), b"frame") {
-        return on_frame(s, line, cut, w, rows, times, tags, out);
+        next.session = on_frame(s, line, cut, w, rows, times, tags, out);
+        return next;
     }
     batches::cut_short(s.batch, out);
     let mut t = s;
     t.batch = slots::no_batch();
+    next.session = t;
     if cut {
         answers::unknown(out);
-        return t;
+        return next;
     }
-    answer(t, line, w, rows, times, tags, saved_times, saved_tags, out)
+    answer(
+        next,
+        line,
+        w,
+        rows,
+        buffer,
+        times,
+        tags,
+        saved_times,
+        saved_tags,
+        out,
+    )
 }
 
 // The lines one after another, each on the store of the slot then in use; what is kept of the first that was not read.
 fn run(
     chunk: &mut [u8; 4096],
-    line: &mut [u8; 131072],
+    line: &mut Line,
     rows: &mut [[i64; 6]; 65],
+    buffer: &mut Buffer,
     times: &mut Times,
     tags: &mut Tags,
     second_times: &mut Times,
@@ -239,7 +312,7 @@ fn run(
     saved_tags: &mut Tags,
     out: &mut Output,
 ) -> Text {
-    let mut s = slots::fresh();
+    let mut standing = fresh();
     let mut r = input::start();
     let mut kept = unread::no_text();
     let mut turns = u64::MAX;
@@ -249,12 +322,13 @@ fn run(
         r = input::next_line(r, chunk, line);
         let said = input::text_of(words::part(line, 0, r.length), number == 1);
         let cut = line.len() <= r.length;
-        if s.second_used {
-            s = on_line(
-                s,
+        if standing.session.second_used {
+            standing = on_line(
+                standing,
                 said,
                 cut,
                 rows,
+                buffer,
                 second_times,
                 second_tags,
                 saved_times,
@@ -262,11 +336,12 @@ fn run(
                 out,
             );
         } else {
-            s = on_line(
-                s,
+            standing = on_line(
+                standing,
                 said,
                 cut,
                 rows,
+                buffer,
                 times,
                 tags,
                 saved_times,
@@ -274,6 +349,7 @@ fn run(
                 out,
             );
         }
+        let s = standing.session;
         kept = unread::kept(kept, s.batch, said, out);
         if r.ended {
             batches::cut_short(s.batch, out);
@@ -285,8 +361,9 @@ fn run(
 
 fn main() {
     let mut chunk = [0u8; 4096];
-    let mut line = [0u8; 131072];
+    let mut line = [0u8; input::ROOM];
     let mut rows = [[0i64; 6]; 65]; // of a batch: one more than it may have, as more are refused like 65
+    let mut buffer = [0u8; lump::ROOM];
     let mut times = [[0i64; 2]; PLACES];
     let mut tags = [[0u32; 5]; PLACES];
     let mut second_times = [[0i64; 2]; PLACES];
@@ -298,6 +375,7 @@ fn main() {
         &mut chunk,
         &mut line,
         &mut rows,
+        &mut buffer,
         &mut times,
         &mut tags,
         &mut second_times,

@@ -1,4 +1,5 @@
-// The marks that a lent list holds before a call, and whether they are still there after it.
+// The marks that a lent list holds before a call, and whether they are still there after it; whether lent bytes are still as they were.
+use script::words::part;
 
 pub const MOST_LENT: usize = 4096; // the places of each list, as many as a script may ask for
 
@@ -72,4 +73,9 @@ pub fn rows_marked(rows: &[[i64; 6]], n: usize) -> bool {
         }
     }
     true
+}
+
+// Whether the bytes from place n on are as they were.
+pub fn same_from(before: &[u8], after: &[u8], n: usize) -> bool {
+    check::same(part(before, n, before.len()), part(after, n, after.len()))
 }

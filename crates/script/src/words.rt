@@ -3,18 +3,20 @@ use text::read::Small;
 
 const SPACE: u8 = 32;
 
-// Where each of a line's first nine words starts and ends, and how many words there are: ten stands for more than nine.
+const MOST: usize = 11; // as many words as a `lump` has
+
+// Where each of a line's first eleven words starts and ends, and how many words there are: twelve stands for more than eleven.
 pub struct Words {
     pub count: usize,
-    pub starts: [usize; 9],
-    pub ends: [usize; 9],
+    pub starts: [usize; MOST],
+    pub ends: [usize; MOST],
 }
 
 fn with_word(w: Words, start: usize, end: usize) -> Words {
     let mut v = w;
     let k = v.count;
-    if 9 <= k {
-        v.count = 10;
+    if MOST <= k {
+        v.count = MOST + 1;
         return v;
     }
     v.starts[k] = start;
@@ -27,8 +29,8 @@ fn with_word(w: Words, start: usize, end: usize) -> Words {
 pub fn words_of(line: &[u8]) -> Words {
     let mut w = Words {
         count: 0,
-        starts: [0; 9],
-        ends: [0; 9],
+        starts: [0; MOST],
+        ends: [0; MOST],
     };
     let mut start = 0;
     let mut i = 0;
@@ -55,7 +57,7 @@ pub fn part(line: &[u8], start: usize, end: usize) -> &[u8] {
 
 // The word at place k, counted from 0; a place without a word has the empty one, which stands for nothing.
 pub fn word(line: &[u8], w: Words, k: usize) -> &[u8] {
-    if 9 <= k {
+    if MOST <= k {
         return part(line, 0, 0);
     }
     part(line, w.starts[k], w.ends[k])
@@ -71,23 +73,28 @@ pub enum Room {
     Not,
 }
 
-// What the word `name=K` at place k says, the last of the line, or what holds where it is left out.
-pub fn lent(line: &[u8], w: Words, k: usize, name: &[u8], default: usize) -> Room {
-    if w.count == k {
+// What the word `name=K` at place k says, or what holds where the line has no word there.
+pub fn lent_at(line: &[u8], w: Words, k: usize, name: &[u8], default: usize) -> Room {
+    if w.count <= k {
         return Room::Is(default);
     }
-    if w.count < k {
+    let v = word(line, w, k);
+    if !begins(v, name) {
         return Room::Not;
     }
-    let last = word(line, w, k);
-    if !begins(last, name) {
-        return Room::Not;
-    }
-    if w.count - 1 != k {
-        return Room::Not;
-    }
-    match text::read::as_small(part(last, name.len(), last.len())) {
+    match text::read::as_small(part(v, name.len(), v.len())) {
         Small::Is(n) => Room::Is(n as usize),
         _ => Room::Not,
     }
+}
+
+// The same of a line that has no word after that place, and every word before it.
+pub fn lent(line: &[u8], w: Words, k: usize, name: &[u8], default: usize) -> Room {
+    if w.count < k {
+        return Room::Not;
+    }
+    if 1 < w.count - k {
+        return Room::Not;
+    }
+    lent_at(line, w, k, name, default)
 }

@@ -1,4 +1,4 @@
--- From a walk over the whole segment to what the call gives: each refusal, and the rows. Assumes nothing.
+-- From a walk over a whole movie fragment to what the call gives: each refusal, and the rows. Assumes nothing.
 use mathlib.Core.Path.{_≡_, refl, sym, ap, _∙_}
 use mathlib.Core.Bool.{Bool, true, false}
 use mathlib.Core.List.{List, [], _++_}
@@ -11,11 +11,12 @@ use borrow.Author.Tests.{ltb-false, le-leb, le-ltb}
 use Rattle.laws.proofs.BoolLaws.{split}
 use Rattle.buffer_state.specs.Refusals.{refused, done}
 use Rattle.buffer_state.specs.declared.Refusal.the-variants as why
-use Rattle.boxes.specs.Boxes.{skipping}
+use Rattle.boxes.specs.Boxes.{skipping, boxesOf}
+use Rattle.boxes.specs.Lone.{Lone, none, lone, loneIn}
 use Rattle.media_times.specs.MediaTimes.{goodScale}
 use Rattle.media_times.specs.declared.Sample.{Sample}
-use Rattle.segments.specs.Listings.{Listing, malformed, listing, segmentListing}
-use Rattle.segments.specs.Segments.{allInLimits, rowsOf, listedIn, listSegment}
+use Rattle.segments.specs.Listings.{MOOF, Listing, malformed, listing, movieListing, listingIn, segmentListing}
+use Rattle.segments.specs.Segments.{allInLimits, rowsOf, listedIn, listMovie, listedLone, listSegment}
 use Rattle.segments.specs.Walks.{startedAt, walkAt, samplesIn, Standing, Further, Reached}
 use Rattle.segments.specs.declared.SegmentTrack.{SegmentTrack}
 use Rattle.segments.specs.declared.Walk.{Walk}
@@ -49,24 +50,33 @@ past-end of places = refl
 
 -- ---- what the call gives
 
-module _ (of : SegmentTrack) (s : List ℕ) (places : ℕ) where
-  pub gives-malformed : segmentListing of s ≡ malformed → listSegment of places s ≡ refused why.Malformed
-  unfolding listSegment
+module _ (of : SegmentTrack) (b : List ℕ) (places : ℕ) where
+  pub gives-malformed : movieListing of b ≡ malformed → listMovie of places b ≡ refused why.Malformed
+  unfolding listMovie
   gives-malformed e = rw e
 
-  module _ (x : List Sample) (e : segmentListing of s ≡ listing x) where
-    gives : listSegment of places s ≡ listedIn of places (listing x)
-    unfolding listSegment
+  module _ (x : List Sample) (e : movieListing of b ≡ listing x) where
+    gives : listMovie of places b ≡ listedIn of places (listing x)
+    unfolding listMovie
     gives = ap (listedIn of places) e
 
-    pub gives-limits : allInLimits (of .timescale) x ≡ false → listSegment of places s ≡ refused why.FrameLimits
+    pub gives-limits : allInLimits (of .timescale) x ≡ false → listMovie of places b ≡ refused why.FrameLimits
     gives-limits p = gives ∙ rw p
 
-    pub gives-short : allInLimits (of .timescale) x ≡ true → ltb places (length x) ≡ true → listSegment of places s ≡ refused why.ShortList
+    pub gives-short : allInLimits (of .timescale) x ≡ true → ltb places (length x) ≡ true → listMovie of places b ≡ refused why.ShortList
     gives-short p q = gives ∙ rw (p, q)
 
-    pub gives-rows : allInLimits (of .timescale) x ≡ true → ltb places (length x) ≡ false → listSegment of places s ≡ done (rowsOf of x)
+    pub gives-rows : allInLimits (of .timescale) x ≡ true → ltb places (length x) ≡ false → listMovie of places b ≡ done (rowsOf of x)
     gives-rows p q = gives ∙ rw (p, q)
+
+-- a segment gives what its one movie fragment does
+pub segment-by-movie : (of : SegmentTrack) (places : ℕ) (s : List ℕ) → listSegment of places s ≡ listedLone of places (loneIn MOOF MOOF (boxesOf s))
+unfolding listMovie listSegment segmentListing
+segment-by-movie of places s = go (loneIn MOOF MOOF (boxesOf s))
+  where
+    go : (x : Lone) → listedIn of places (listingIn of x) ≡ listedLone of places x
+    go none = refl
+    go (lone b) = refl
 
 -- ---- what the walk that judges knows
 

@@ -1,5 +1,5 @@
--- Document 02, No. 1: what reading a segment gives: the frames of one track as rows of numbers, or a refusal, in the order 12, 4, 10 over the
--- whole segment.
+-- Document 02, No. 1: what reading a segment, or its movie fragment, gives: the frames of one track as rows of numbers, or a refusal, in the
+-- order 12, 4, 10 over the whole.
 use mathlib.Core.Bool.{Bool, not, _&&_}
 use mathlib.Core.List.{List, _++_, map}
 use Prim.Native.Nat.{ℕ}
@@ -11,9 +11,10 @@ use Rattle.buffer_state.specs.WellFormed.{allOf}
 use Rattle.buffer_state.specs.declared.Count.{Count}
 use Rattle.buffer_state.specs.declared.Count.the-variants as Count
 use Rattle.buffer_state.specs.declared.Refusal.the-variants.{FrameLimits, ShortList, Malformed}
+use Rattle.boxes.specs.Lone.{Lone, none, lone}
 use Rattle.media_times.specs.MediaTimes.{goodScale, inLimits, rowOf}
 use Rattle.media_times.specs.declared.Sample.{Sample}
-use Rattle.segments.specs.Listings.{Listing, malformed, listing, segmentListing}
+use Rattle.segments.specs.Listings.{Listing, malformed, listing, movieListing, segmentListing}
 use Rattle.segments.specs.declared.SegmentTrack.{SegmentTrack}
 
 -- "a timescale or converted frame outside its limits"
@@ -31,6 +32,16 @@ listedIn of places (listing l) =
     refuseIf (not (allInLimits (of .timescale) l)) FrameLimits
     (refuseIf (ltb places (length l)) ShortList (done (rowsOf of l)))
 
+-- of a movie fragment, by its body
+unfoldable pub listMovie : SegmentTrack → ℕ → List ℕ → Result (List (List ℤ))
+listMovie of places b = listedIn of places (movieListing of b)
+
+-- where the one movie fragment was looked for: its body decides, and without one it is refused 12
+abbrev pub listedLone : SegmentTrack → ℕ → Lone → Result (List (List ℤ))
+listedLone of places none = refused Malformed
+listedLone of places (lone b) = listMovie of places b
+
+-- of a segment
 unfoldable pub listSegment : SegmentTrack → ℕ → List ℕ → Result (List (List ℤ))
 listSegment of places s = listedIn of places (segmentListing of s)
 

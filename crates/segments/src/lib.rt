@@ -12,8 +12,8 @@ ghost use Rattle.boxes.specs.Lone.{loneIn};
 ghost use Rattle.fragments.specs.Runs.{samplesFrom, widthOf, Fitting, runOf};
 ghost use Rattle.media_times.specs.MediaTimes.{goodScale, rowOf};
 ghost use Rattle.media_times.specs.declared.Sample.{Sample};
-ghost use Rattle.segments.specs.Listings.{TFHD, TFDT, TRUN, total, runListing, runsFrom, headerIn, timeIn, runsBy, fragmentListing, movieListing, segmentListing};
-ghost use Rattle.segments.specs.Segments.{listSegment, rowCount, rowsAfter};
+ghost use Rattle.segments.specs.Listings.{TFHD, TFDT, TRUN, total, runListing, runsFrom, headerIn, timeIn, runsBy, fragmentListing, movieListing};
+ghost use Rattle.segments.specs.Segments.{listMovie, listSegment, rowCount, rowsAfter};
 ghost use Rattle.segments.specs.declared.Walked.the-variants.{Upto};
 ghost use Rattle.segments.specs.Walks.{lostWalk, startedAt, begunAt, movedBy, rowsFor, Somewhere, Timed, Onward, Reached, Reaches, TimedBy};
 use boxes::Cursor;
@@ -411,8 +411,6 @@ fn walk_movie(of: SegmentTrack, s: &[u8], w: Walk, write: bool, list: &mut [[i64
     }
 }
 
-// ---- the segment
-
 // A walk that has seen no sample yet.
 fn started(scale: u32) -> Walk
     ensures { λ r. ⌜ r ≡ startedAt scale ⌝ }
@@ -426,24 +424,19 @@ fn started(scale: u32) -> Walk
     }
 }
 
-// A walk over the segment's one movie fragment.
-fn walk_segment(of: SegmentTrack, s: &[u8], write: bool, list: &mut [[i64; 6]]) -> Walked
-    ensures { λ r. ⌜ Reached of write (now (list .entry)) [] (segmentListing of (now (s .entry))) r (now (list .exit)) ⌝ }
+// A walk over a movie fragment, from its start.
+fn walk_whole(of: SegmentTrack, b: &[u8], write: bool, list: &mut [[i64; 6]]) -> Walked
+    ensures { λ r. ⌜ Reached of write (now (list .entry)) [] (movieListing of (now (b .entry))) r (now (list .exit)) ⌝ }
 {
-    match boxes::lone(s, MOOF, MOOF) {
-        Part::None => Walked::Malformed,
-        Part::Is { start, end } => {
-            let w = started(of.timescale);
-            walk_movie(of, &s[start..end], w, write, list)
-        }
-    }
+    let w = started(of.timescale);
+    walk_movie(of, b, w, write, list)
 }
 
-// The rows, where the walk that judged the segment found nothing to refuse.
-fn listed(of: SegmentTrack, s: &[u8], w: Walk, list: &mut [[i64; 6]]) -> Count
-    requires { ⌜ Reached of false (now list) [] (segmentListing of (now s)) (Upto w) (now list) ⌝ }
-    ensures { λ r. ⌜ r ≡ rowCount (listSegment of (length (now (list .entry))) (now (s .entry))) ⌝ }
-    ensures { λ r. ⌜ now (list .exit) ≡ rowsAfter (listSegment of (length (now (list .entry))) (now (s .entry))) (now (list .entry)) ⌝ }
+// The rows, where the walk that judged the movie fragment found nothing to refuse.
+fn listed(of: SegmentTrack, b: &[u8], w: Walk, list: &mut [[i64; 6]]) -> Count
+    requires { ⌜ Reached of false (now list) [] (movieListing of (now b)) (Upto w) (now list) ⌝ }
+    ensures { λ r. ⌜ r ≡ rowCount (listMovie of (length (now (list .entry))) (now (b .entry))) ⌝ }
+    ensures { λ r. ⌜ now (list .exit) ≡ rowsAfter (listMovie of (length (now (list .entry))) (now (b .entry))) (now (list .entry)) ⌝ }
 {
     if !w.good {
         return Count::Refused(Refusal::FrameLimits);
@@ -451,17 +444,31 @@ fn listed(of: SegmentTrack, s: &[u8], w: Walk, list: &mut [[i64; 6]]) -> Count
     if w.over {
         return Count::Refused(Refusal::ShortList);
     }
-    walk_segment(of, s, true, list);
+    walk_whole(of, b, true, list);
     Count::Done(w.count)
 }
 
+// The frames of a track in a movie fragment, of which the body is lent.
+pub fn list_movie(of: SegmentTrack, b: &[u8], list: &mut [[i64; 6]]) -> Count
+    ensures { λ r. ⌜ r ≡ rowCount (listMovie of (length (now (list .entry))) (now (b .entry))) ⌝ }
+    ensures { λ r. ⌜ now (list .exit) ≡ rowsAfter (listMovie of (length (now (list .entry))) (now (b .entry))) (now (list .entry)) ⌝ }
+{
+    match walk_whole(of, b, false, list) {
+        Walked::Malformed => Count::Refused(Refusal::Malformed),
+        Walked::Upto(w) => listed(of, b, w, list),
+    }
+}
+
+// ---- the segment
+
+// The frames of a track in the segment's one movie fragment.
 fn list_whole(of: SegmentTrack, s: &[u8], list: &mut [[i64; 6]]) -> Count
     ensures { λ r. ⌜ r ≡ rowCount (listSegment of (length (now (list .entry))) (now (s .entry))) ⌝ }
     ensures { λ r. ⌜ now (list .exit) ≡ rowsAfter (listSegment of (length (now (list .entry))) (now (s .entry))) (now (list .entry)) ⌝ }
 {
-    match walk_segment(of, s, false, list) {
-        Walked::Malformed => Count::Refused(Refusal::Malformed),
-        Walked::Upto(w) => listed(of, s, w, list),
+    match boxes::lone(s, MOOF, MOOF) {
+        Part::None => Count::Refused(Refusal::Malformed),
+        Part::Is { start, end } => list_movie(of, &s[start..end], list),
     }
 }
 

@@ -12,6 +12,7 @@
 mod balance;
 mod book;
 mod kept;
+mod lumps;
 mod places;
 mod reading;
 mod run;

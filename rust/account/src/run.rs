@@ -6,6 +6,7 @@ use second::Offered;
 
 use crate::book::Offering;
 use crate::kept::Kept;
+use crate::lumps::Lumps;
 use crate::places::Places;
 use crate::reading::ReadCall;
 
@@ -49,6 +50,7 @@ pub struct Run {
     pub(crate) not_done: Vec<NotDone>,
     /// The line of the first poke, and the slot.
     pub(crate) first_poke: Option<(usize, usize)>,
+    lumps: Lumps,
 }
 
 impl Run {
@@ -104,6 +106,11 @@ impl Run {
                 let mut list = vec![ListedFrame::default(); *places];
                 let listed = Proved.list_segment(*of, segment, &mut list);
                 listed.map(drop).map_err(Why::Refused)
+            }
+            Call::Lump(lump) => self.lumps.take(lump).map_err(Why::Refused),
+            Call::LumpFresh => {
+                self.lumps.begin_anew();
+                Ok(())
             }
             Call::Batch(frames, lines) => self.batch(call, frames, *lines),
             Call::Poke(poke) => {
@@ -480,6 +487,22 @@ mod tests {
         assert_eq!(reasons(&read), []);
         assert!(read.places.replaced.is_empty());
         assert!(read.balances());
+    }
+
+    #[test]
+    fn lumps_need_no_buffer() {
+        // A movie fragment without tracks, in two lumps and then in one.
+        let (more, last) = ("lump more 1 1 1 1 1 1", "lump last 1 1 1 1 1 1");
+        let run = run(&format!(
+            "{more} 00000008\n{last} 6d6f6f66 buffer=65535\n{last} 6d6f6f66\n{last} -\n\
+             {more} 000100016d6f6f66\n{more} 00\nlump-fresh\n{last} 000000086d6f6f66 buffer=70000"
+        ));
+        let wanted = [
+            (2, Why::Refused(13)),
+            (4, Why::Refused(12)),
+            (5, Why::Refused(14)),
+        ];
+        assert_eq!(reasons(&run), wanted);
     }
 
     #[test]

@@ -356,10 +356,10 @@ The balance holds.
              and its balance may fail.",
             "      1     2      1      0.000000  0.000000  0.000100  yes             0.000000  \
              neither stored nor on a fate line",
-            "  Held at the end on track 1 (video): not reported, the buffer is not well-formed",
+            "  Held at the end on track 1 (video): not reported, the buffer or lump reader is not well-formed",
             "      1        1       0        0        0  1 is not 0 + 0 + 0",
             "  Frame 1 is neither stored nor on a fate line.",
-            "     4     1  abort  refused 1: the buffer is not well-formed",
+            "     4     1  abort  refused 1: the buffer or lump reader is not well-formed",
             "The balance does not hold.",
         ] {
             assert!(text.lines().any(|told| told == line), "{line}\n{text}");

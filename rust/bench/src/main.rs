@@ -3,7 +3,8 @@
 //! Prints the tables of `docs/PERFORMANCE.md`: the time of a call in microseconds, the median of
 //! several rounds. The two take turns within a round, so that a busy moment hits both.
 //!
-//! `bench --reports` times the reports of long lines alone, `bench --groups` the walks by group.
+//! `bench --reports` times the reports of long lines alone, `bench --groups` the walks by group,
+//! `bench --lumps` the segments that come in lumps.
 //! `bench --write-segments FOLDER` times nothing and writes the segments that are timed into files.
 
 #![forbid(unsafe_code)]
@@ -12,6 +13,7 @@ mod files;
 mod grouping;
 mod groups;
 mod line;
+mod lumps;
 mod measure;
 mod reports;
 mod rounds;
@@ -33,7 +35,12 @@ fn main() -> ExitCode {
         [] => {
             println!("{}", table::report(&mut proved, &mut second));
             println!("{}", reports::report(&mut proved, &mut second));
-            print!("{}", groups::report(&mut proved, &mut second));
+            println!("{}", groups::report(&mut proved, &mut second));
+            print!("{}", lumps::report(&mut proved, &mut second));
+            ExitCode::SUCCESS
+        }
+        ["--lumps"] => {
+            print!("{}", lumps::report(&mut proved, &mut second));
             ExitCode::SUCCESS
         }
         ["--groups"] => {
@@ -52,7 +59,7 @@ fn main() -> ExitCode {
             }
         },
         _ => {
-            eprintln!("usage: bench [--reports | --groups | --write-segments FOLDER]");
+            eprintln!("usage: bench [--reports | --groups | --lumps | --write-segments FOLDER]");
             ExitCode::FAILURE
         }
     }

@@ -1,14 +1,15 @@
 //! What is timed, and how.
 
 use std::hint::black_box;
+use std::slice::Chunks;
 use std::time::Instant;
 
 use script::{row_of, FrameField, Place, Poke, Subject};
-use second::{Mode, Offered, BATCH_FRAMES, BATCH_LINES, FRAME_PLACES};
+use second::{Mode, Offered, BATCH_FRAMES, BATCH_LINES, FRAME_PLACES, LUMP_BYTES};
 
 use crate::grouping::Grouping;
 use crate::line::Line;
-use crate::segment::{segment, TRACK};
+use crate::segment::{heavy_segment, segment, TRACK};
 
 /// A frame lasts 40 ms: 25 frames a second.
 const FRAME: u32 = 40_000;
@@ -29,6 +30,13 @@ const SURVEY_KEPT: i64 = 40;
 /// Calls timed in a round, of which the median counts.
 const CALLS: usize = 200;
 
+/// Segments with much media data timed in a round, of which the median counts.
+const HEAVY_SEGMENTS: usize = 5;
+
+/// The frames of such a segment, and the bytes of each: 10 MB of media data.
+pub const HEAVY_FRAMES: u32 = 2_500;
+pub const HEAVY_BYTES: u32 = 4_000;
+
 /// The refusal of a report into too few places.
 const SHORT_LIST: u32 = 10;
 
@@ -43,6 +51,8 @@ pub enum Case {
     Survey,
     /// Listing a segment of so many frames.
     Segment(u32),
+    /// Listing a segment with much media data.
+    Heavy(Coming),
     /// As many frames as a batch can have, after the last of a buffer of so many tracks that they
     /// fill to its last place.
     Frames(Way, u32),
@@ -73,6 +83,15 @@ pub enum Report {
     Common,
     /// The count of the frames that a track's report takes.
     Walked,
+}
+
+/// How a segment comes.
+#[derive(Clone, Copy, Debug, PartialEq, Eq)]
+pub enum Coming {
+    /// In one piece.
+    Whole,
+    /// In lumps of so many bytes.
+    InLumps(usize),
 }
 
 /// How several frames are appended.
@@ -357,6 +376,45 @@ impl<S: Subject> Runner<S> {
         };
         median((0..CALLS).map(|_| time()).collect())
     }
+
+    /// The median time of listing a segment with much media data, all its lumps together.
+    fn heavy(&mut self, coming: Coming) -> f64 {
+        let segment = heavy_segment(HEAVY_FRAMES, HEAVY_BYTES);
+        let mut list: Vec<S::Row> = vec![Place::of([0; 6]); HEAVY_FRAMES as usize + 1];
+        let mut buffer = vec![0; LUMP_BYTES];
+        let mut time = || {
+            let (segment, list) = (black_box(&segment), &mut list);
+            let start = Instant::now();
+            let listed = match coming {
+                Coming::Whole => self.subject.list_segment(TRACK, segment, list),
+                Coming::InLumps(length) => {
+                    self.take_lumps(segment.chunks(length), &mut buffer, list)
+                }
+            };
+            black_box(list);
+            let time = micros_since(start);
+            assert_eq!(listed, Ok(HEAVY_FRAMES as usize), "frames that are listed");
+            time
+        };
+        median((0..HEAVY_SEGMENTS).map(|_| time()).collect())
+    }
+
+    /// Takes lumps, the end with the last of them.
+    fn take_lumps(
+        &mut self,
+        mut lumps: Chunks<u8>,
+        buffer: &mut [u8],
+        list: &mut [S::Row],
+    ) -> Result<usize, u32> {
+        let mut reader = S::Reader::default();
+        let last = lumps.next_back().unwrap_or_default();
+        for lump in lumps {
+            self.subject
+                .take_lump(&mut reader, TRACK, buffer, lump, false, list)?;
+        }
+        self.subject
+            .take_lump(&mut reader, TRACK, buffer, last, true, list)
+    }
 }
 
 impl<S: Subject> Measure for Runner<S> {
@@ -366,6 +424,7 @@ impl<S: Subject> Measure for Runner<S> {
             Case::Call(call, tracks, frames) => self.call(call, tracks, frames),
             Case::Survey => self.survey(),
             Case::Segment(frames) => self.segment(frames),
+            Case::Heavy(coming) => self.heavy(coming),
             Case::Frames(way, tracks) => self.frames(way, tracks),
             Case::Report(report, line, places, frames) => self.report(report, line, places, frames),
             Case::Walk(walk, grouping, points, lines) => self.walk(walk, grouping, points, lines),

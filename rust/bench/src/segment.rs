@@ -28,15 +28,25 @@ pub const TRACK: SegmentTrack = SegmentTrack {
 
 /// A segment of so many frames.
 pub fn segment(frames: u32) -> Vec<u8> {
+    sized_segment(frames, size)
+}
+
+/// A segment of so many frames with so many bytes each.
+pub fn heavy_segment(frames: u32, bytes: u32) -> Vec<u8> {
+    sized_segment(frames, |_| bytes)
+}
+
+/// A segment whose frames have the sizes of their places.
+fn sized_segment(frames: u32, size: impl Fn(u32) -> u32) -> Vec<u8> {
     // The data offset counts from the movie fragment's first byte to the media data's body.
-    let data_offset = movie_fragment(frames, 0).len() as u32 + 8;
-    let moof = movie_fragment(frames, data_offset);
+    let data_offset = movie_fragment(frames, 0, &size).len() as u32 + 8;
+    let moof = movie_fragment(frames, data_offset, &size);
     let payload = (0..frames).map(size).sum::<u32>();
     let styp = boxed(b"styp", &[b"msdh\0\0\0\0msdhmsix"]);
     [styp, moof, boxed(b"mdat", &[&vec![0; payload as usize]])].concat()
 }
 
-fn movie_fragment(frames: u32, data_offset: u32) -> Vec<u8> {
+fn movie_fragment(frames: u32, data_offset: u32, size: impl Fn(u32) -> u32) -> Vec<u8> {
     let tfhd = full(b"tfhd", 0, 0x2_0020, &[TRACK.id, NON_SYNC]);
     let tfdt = full(b"tfdt", 1, 0, &[0, 0]);
     let mut run = vec![frames, data_offset];

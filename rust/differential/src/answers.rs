@@ -1,7 +1,9 @@
 //! Counting what the answers say: accepted and refused calls, causes, the doubles handed in, what
-//! became of batches, and what the walks of reports and calls in the last group met.
+//! became of batches, what the walks of reports and calls in the last group met, and how cut segments
+//! ended.
 
 mod batches;
+mod cuttings;
 mod groups;
 mod walks;
 
@@ -12,9 +14,11 @@ use script::Call;
 use second::{micros, SECONDS_LIMIT};
 
 use crate::last_group::LastGroup;
+use crate::lumps::cutting::Cutting;
 use crate::told::fates;
 use crate::walk::Walk;
 use batches::Batches;
+use cuttings::Cuttings;
 use groups::Groups;
 use walks::Walks;
 
@@ -33,7 +37,7 @@ const fn row(call: &'static str, refusals: &'static [usize], causes: &'static [u
     }
 }
 
-const ROWS: [Row; 14] = [
+const ROWS: [Row; 15] = [
     row("create", &[11], &[]),
     row("append", &[1, 2, 3, 4, 9, 7, 8], &[1, 2, 3, 4, 5]),
     row("batch", &[1, 13, 2], &[1, 2, 3, 4, 5]),
@@ -48,12 +52,15 @@ const ROWS: [Row; 14] = [
     row("common", &[1, 10], &[]),
     row("walked", &[1, 3], &[]),
     row(SEGMENT, &[12, 4, 10], &[]),
+    row(LUMP, &[1, 13, 14, 12, 4, 10], &[]),
 ];
 
 const SEGMENT: &str = "segment";
 
+const LUMP: &str = "lump";
+
 /// One more than the highest refusal.
-const REFUSALS: usize = 14;
+const REFUSALS: usize = 15;
 
 /// One more than the highest cause.
 const CAUSES: usize = 7;
@@ -112,6 +119,8 @@ pub struct Answers {
     pub segments: u64,
     /// Lists of rows compared besides the batches of scripts.
     pub rows: u64,
+    /// Segments compared that were cut into lumps, each way of cutting one counted.
+    pub cuttings: u64,
     accepted: [u64; ROWS.len()],
     refused: [[u64; REFUSALS]; ROWS.len()],
     causes: [[u64; CAUSES]; ROWS.len()],
@@ -119,6 +128,7 @@ pub struct Answers {
     batches: Batches,
     walks: Walks,
     groups: Groups,
+    cut: Cuttings,
     /// What a segment is answered whole, and what damaged: none for no refusal.
     damage: BTreeMap<[Option<u32>; 2], u64>,
 }
@@ -155,11 +165,30 @@ impl Answers {
     /// Counts what a segment is answered that no script has.
     pub(crate) fn segment(&mut self, result: Result<usize, u32>) {
         self.segments += 1;
-        let row = place(SEGMENT).unwrap_or_default();
+        self.result(SEGMENT, result);
+    }
+
+    fn result(&mut self, call: &str, result: Result<usize, u32>) {
+        let row = place(call).unwrap_or_default();
         match result {
             Ok(_) => self.accepted[row] += 1,
             Err(number) => self.refuse(row, usize::try_from(number).ok()),
         }
+    }
+
+    /// Counts a segment that was cut, by what its calls were answered.
+    pub(crate) fn cutting(&mut self, cutting: &Cutting, results: &[Result<usize, u32>]) {
+        self.cuttings += 1;
+        self.cut.count(cutting, results);
+        for result in results {
+            self.result(LUMP, *result);
+        }
+    }
+
+    /// Counts lumps that were refused 1, by readers that no call hands out.
+    pub(crate) fn damaged_readers(&mut self, times: u64) {
+        let row = place(LUMP).unwrap_or_default();
+        self.refused[row][1] += times;
     }
 
     /// Counts a walk that was answered.
@@ -227,6 +256,7 @@ impl Answers {
         gaps.extend(self.batches.gaps());
         gaps.extend(self.walks.gaps());
         gaps.extend(self.groups.gaps());
+        gaps.extend(self.cut.gaps());
         let missed = DAMAGE
             .iter()
             .filter(|pair| !self.damage.contains_key(*pair));
@@ -262,6 +292,7 @@ impl Answers {
         text.push_str(&self.batches.tables());
         text.push_str(&self.walks.table());
         text.push_str(&self.groups.table());
+        text.push_str(&self.cut.tables());
         text.push_str("\n| Segment, whole | Damaged | Times |\n|---|---|---|\n");
         for ([whole, torn], times) in &self.damage {
             let _ = writeln!(text, "| {} | {} | {times} |", said(*whole), said(*torn));

@@ -10,8 +10,17 @@ use crate::parting::Parting;
 use crate::singles::Singles;
 use crate::walk::Walk;
 
-/// The calls that only read.
-const READING: [&str; 6] = ["settings", "ranges", "common", "walked", "segment", "state"];
+/// The calls that only read, and those that no buffer takes part in.
+const READING: [&str; 8] = [
+    "settings",
+    "ranges",
+    "common",
+    "walked",
+    "segment",
+    "lump",
+    "lump-fresh",
+    "state",
+];
 
 /// Puts a script, call by call, to two implementations; tells where they part first.
 pub fn compare<A: Subject, B: Subject>(

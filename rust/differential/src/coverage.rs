@@ -1,9 +1,9 @@
-//! Counting the branches of the steps, of batches and of the reader of segments, and the clauses of
-//! the well-formed test.
+//! Counting the branches of the steps, of batches, of the reader of segments and of that of their
+//! lumps, and the clauses of the well-formed test.
 
 use std::fmt::Write;
 
-use second::{BatchBranch, Branch, Fault, Framing, Parent, SegmentBranch, Trace};
+use second::{BatchBranch, Branch, Fault, Framing, LumpBranch, Parent, SegmentBranch, Trace};
 
 /// Where in a call a branch is taken.
 #[derive(Clone, Copy, Debug, PartialEq, Eq)]
@@ -69,6 +69,7 @@ pub struct Coverage {
     batches: [u64; BatchBranch::ALL.len()],
     framings: [[u64; Parent::ALL.len()]; Framing::ALL.len()],
     segments: [u64; SegmentBranch::ALL.len()],
+    lumps: [u64; LumpBranch::ALL.len()],
 }
 
 impl Default for Coverage {
@@ -83,6 +84,7 @@ impl Default for Coverage {
             batches: [0; BatchBranch::ALL.len()],
             framings: [[0; Parent::ALL.len()]; Framing::ALL.len()],
             segments: [0; SegmentBranch::ALL.len()],
+            lumps: [0; LumpBranch::ALL.len()],
         }
     }
 }
@@ -129,6 +131,10 @@ impl Trace for Coverage {
     fn segment(&mut self, branch: SegmentBranch) {
         self.segments[branch as usize] += 1;
     }
+
+    fn lump(&mut self, branch: LumpBranch) {
+        self.lumps[branch as usize] += 1;
+    }
 }
 
 impl Coverage {
@@ -169,6 +175,11 @@ impl Coverage {
             .zip(self.segments)
             .filter(|(_, times)| *times == 0);
         gaps.extend(missed.map(|(branch, _)| format!("segment, {}: never", branch.text())));
+        let missed = LumpBranch::ALL
+            .iter()
+            .zip(self.lumps)
+            .filter(|(_, times)| *times == 0);
+        gaps.extend(missed.map(|(branch, _)| format!("lump, {}: never", branch.text())));
         gaps
     }
 
@@ -212,6 +223,10 @@ impl Coverage {
         }
         text.push_str("\n| Branch of the reader of segments | Times |\n|---|---|\n");
         for (branch, times) in SegmentBranch::ALL.iter().zip(self.segments) {
+            let _ = writeln!(text, "| {} | {times} |", branch.text());
+        }
+        text.push_str("\n| Branch of the reader of lumps | Times |\n|---|---|\n");
+        for (branch, times) in LumpBranch::ALL.iter().zip(self.lumps) {
             let _ = writeln!(text, "| {} | {times} |", branch.text());
         }
         text

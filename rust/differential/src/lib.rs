@@ -1,12 +1,13 @@
-//! Generated scripts, segments and lists of frames, put to two implementations of the frame buffer
-//! at once, and every answer, list and state compared. A batch is compared besides with single
-//! appends of its frames, the count of a report's frames with a walk over them and with the report, and
-//! a call in the last group with the same call before it.
+//! Generated scripts, segments, lists of frames and segments cut into lumps, put to two implementations
+//! of the frame buffer at once, and every answer, list and state compared. A batch is compared besides
+//! with single appends of its frames, the count of a report's frames with a walk over them and with the
+//! report, a call in the last group with the same call before it, and a segment that is cut with the
+//! whole and with the place where refusal 14 is due.
 //!
 //! What they reached is counted: each refusal of each call, each stop of a batch, each cause, what the
-//! walks of reports and calls in the last group met, each clause of the well-formed test, each branch
-//! of the steps and of the reader of segments. A run that never reached one of them proves less than it
-//! seems to, and fails.
+//! walks of reports and calls in the last group met, how segments ended that were cut, each clause of
+//! the well-formed test, each branch of the steps, of the reader of segments and of that of lumps. A run
+//! that never reached one of them proves less than it seems to, and fails.
 
 #![forbid(unsafe_code)]
 
@@ -16,6 +17,7 @@ mod compare;
 mod coverage;
 mod generate;
 mod last_group;
+mod lumps;
 mod parting;
 mod rng;
 mod rows;

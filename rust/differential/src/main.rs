@@ -1,9 +1,9 @@
-//! Compares two implementations of the frame buffer over generated scripts, segments and lists of
-//! frames.
+//! Compares two implementations of the frame buffer over generated scripts, segments, lists of frames
+//! and segments cut into lumps.
 //!
-//! `differential [SCRIPTS [SEED [SEGMENTS [ROWS]]]]`; without words, as many as a minute and a few
-//! seconds allow with time to spare. Each of the segments has three damaged ones beside it, and ROWS
-//! are the lists that no script can hold.
+//! `differential [SCRIPTS [SEED [SEGMENTS [ROWS [CUTTINGS]]]]]`; without words, as many as a minute and
+//! a half allows with time to spare. Each of the segments has three damaged ones beside it, ROWS are
+//! the lists that no script can hold, and of the CUTTINGS several are of one segment.
 
 #![forbid(unsafe_code)]
 
@@ -20,15 +20,18 @@ const SEGMENTS: u64 = 250_000;
 
 const ROWS: u64 = 100_000;
 
+const CUTTINGS: u64 = 150_000;
+
 fn main() -> ExitCode {
     let mut words = env::args().skip(1).map(|word| word.parse::<u64>());
-    let (Ok(scripts), Ok(seed), Ok(segments), Ok(rows)) = (
+    let (Ok(scripts), Ok(seed), Ok(segments), Ok(rows), Ok(cuttings)) = (
         words.next().unwrap_or(Ok(SCRIPTS)),
         words.next().unwrap_or(Ok(0)),
         words.next().unwrap_or(Ok(SEGMENTS)),
         words.next().unwrap_or(Ok(ROWS)),
+        words.next().unwrap_or(Ok(CUTTINGS)),
     ) else {
-        eprintln!("usage: differential [SCRIPTS [SEED [SEGMENTS [ROWS]]]]");
+        eprintln!("usage: differential [SCRIPTS [SEED [SEGMENTS [ROWS [CUTTINGS]]]]]");
         return ExitCode::FAILURE;
     };
     let plan = Plan {
@@ -36,6 +39,7 @@ fn main() -> ExitCode {
         scripts,
         segments,
         rows,
+        cuttings,
     };
 
     let mut one: Second<Coverage> = Second::default();
@@ -51,14 +55,15 @@ fn main() -> ExitCode {
 
     println!("{}\n{}", answers.tables(), one.trace.tables());
     println!(
-        "{} scripts, {} answers, {} states, {} accounts, {} segments and {} lists of rows compared \
-         in {:.1} s, {} pokes declined",
+        "{} scripts, {} answers, {} states, {} accounts, {} segments, {} lists of rows and {} cuttings \
+         compared in {:.1} s, {} pokes declined",
         answers.scripts,
         answers.answers,
         answers.states,
         answers.accounts,
         answers.segments,
         answers.rows,
+        answers.cuttings,
         start.elapsed().as_secs_f64(),
         answers.declined
     );

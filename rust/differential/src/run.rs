@@ -5,6 +5,7 @@ use script::Subject;
 use crate::answers::Answers;
 use crate::compare::compare;
 use crate::generate::script;
+use crate::lumps::compare_cuttings;
 use crate::parting::{Failure, Parting};
 use crate::rows::compare_rows;
 use crate::segments::compare_segments;
@@ -21,9 +22,12 @@ pub struct Plan {
     pub segments: u64,
     /// How many lists of rows that no script can hold, one a seed.
     pub rows: u64,
+    /// How many cuttings of segments at least, several a seed.
+    pub cuttings: u64,
 }
 
-/// Puts the scripts, the segments and the lists of rows of a plan to two implementations.
+/// Puts the scripts, the segments, the lists of rows and the cut segments of a plan to two
+/// implementations.
 pub fn run<A: Subject, B: Subject>(
     plan: Plan,
     one: &mut A,
@@ -40,6 +44,7 @@ pub fn run<A: Subject, B: Subject>(
     compare_segments(seeds, one, other, &mut answers)?;
     let seeds = plan.seed..plan.seed + plan.rows;
     compare_rows(seeds, one, other, &mut answers)?;
+    compare_cuttings(plan.seed, plan.cuttings, one, other, &mut answers)?;
     Ok(answers)
 }
 

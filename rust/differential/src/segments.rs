@@ -1,24 +1,23 @@
 //! Generated segments, well-made and damaged, put to two implementations at once.
 
-mod case;
+pub(crate) mod case;
 mod damage;
+mod enlarge;
 mod make;
+pub(crate) mod outcome;
 mod tree;
 mod values;
 
-use script::{Place, Subject};
-use second::Row;
+use script::Subject;
 
 use crate::answers::Answers;
 use crate::parting::{Failure, Parting};
 use crate::rng::Rng;
 use case::Case;
+use outcome::Outcome;
 
 /// The damaged segments that are made of each well-made one.
 const DAMAGED: u64 = 3;
-
-/// Numbers that no listed frame has.
-const MARK: Row = [i64::MIN, i64::MAX, i64::MIN, i64::MAX, i64::MIN, i64::MAX];
 
 /// Refusal 12, which no well-made segment is given.
 const MALFORMED: u32 = 12;
@@ -32,26 +31,16 @@ pub(crate) fn any(rng: &mut Rng) -> Case {
     }
 }
 
-/// What a call answers, with the whole list as it lies afterwards.
-#[derive(Clone, Debug, PartialEq, Eq)]
-struct Outcome {
-    result: Result<usize, u32>,
-    list: Vec<Row>,
-}
-
-impl Outcome {
-    fn of<S: Subject>(subject: &mut S, case: &Case) -> Self {
-        let mut list = vec![S::Row::of(MARK); case.places];
-        let result = subject.list_segment(case.of, &case.bytes, &mut list);
-        let list = list.into_iter().map(Place::numbers).collect();
-        Self { result, list }
+/// A segment to be cut: well-made or damaged, often with boxes that are larger than a lump.
+pub(crate) fn for_lumps(rng: &mut Rng) -> Case {
+    let (mut case, mut nodes) = make::make(rng);
+    if rng.percent(40) {
+        enlarge::enlarge(rng, &mut nodes);
+        case.bytes = tree::bytes(&nodes);
     }
-
-    /// Whether it wrote its count of rows and no other, and on a refusal none.
-    fn is_tidy(&self) -> bool {
-        let count = self.result.unwrap_or(0);
-        let rest = self.list.get(count..);
-        rest.is_some_and(|rest| rest.iter().all(|row| *row == MARK))
+    match rng.percent(60) {
+        true => case,
+        false => damage::damage(rng, &case, &nodes),
     }
 }
 
@@ -84,12 +73,20 @@ pub(crate) fn compare_segments<A: Subject, B: Subject>(
 }
 
 /// The answer of both, or where they part.
-fn compare<A: Subject, B: Subject>(
+pub(crate) fn compare<A: Subject, B: Subject>(
     case: &Case,
     one: &mut A,
     other: &mut B,
 ) -> Result<Result<usize, u32>, Box<Parting>> {
-    let [one, other] = [Outcome::of(one, case), Outcome::of(other, case)];
+    let &Case {
+        of,
+        ref bytes,
+        places,
+    } = case;
+    let [one, other] = [
+        Outcome::of(one, of, bytes, places),
+        Outcome::of(other, of, bytes, places),
+    ];
     match one == other && one.is_tidy() {
         true => Ok(one.result),
         false => Err(parting(

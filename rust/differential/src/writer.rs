@@ -291,10 +291,14 @@ impl Writer {
         self.line(format!("walked {track}{places}"));
     }
 
-    /// A segment, well-made or damaged.
+    /// A segment, well-made or damaged, whole and in two lumps.
     pub(crate) fn segment(&mut self) {
-        let line = segments::any(&mut self.rng).line();
-        self.line(line);
+        let segment = segments::any(&mut self.rng);
+        self.line(segment.line());
+        self.line("lump-fresh");
+        for line in segment.lump_lines() {
+            self.line(line);
+        }
     }
 
     /// Any call, mostly appends.

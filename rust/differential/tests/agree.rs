@@ -12,6 +12,7 @@ fn second_agrees_with_itself_and_everything_is_reached() {
         scripts: 4_000,
         segments: 20_000,
         rows: 5_000,
+        cuttings: 50_000,
     };
     let answers = run(plan, &mut one, &mut other).unwrap_or_else(|failure| panic!("{failure}"));
     let gaps = [answers.gaps(), one.trace.gaps()].concat();
@@ -25,6 +26,7 @@ fn the_proved_library_agrees_with_second() {
         scripts: 500,
         segments: 5_000,
         rows: 5_000,
+        cuttings: 10_000,
     };
     let answers = run(plan, &mut Second::<()>::default(), &mut Proved)
         .unwrap_or_else(|failure| panic!("{failure}"));
@@ -48,6 +50,7 @@ fn a_run_that_reaches_little_has_gaps() {
         scripts: 1,
         segments: 1,
         rows: 1,
+        cuttings: 1,
     };
     let answers = run(plan, &mut one, &mut other).unwrap_or_else(|failure| panic!("{failure}"));
     assert!(!answers.gaps().is_empty());

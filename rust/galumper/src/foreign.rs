@@ -1,13 +1,14 @@
-//! The functions of the static library, as `include/galumper.h` declares them: the head goes by
-//! value, and the arrays are lent.
+//! The functions of the static library, as `include/galumper.h` declares them: the head or the lump
+//! reader goes by value, and the arrays are lent.
 
 use crate::buffer::{Head, Offered, Tags, Times};
 use crate::listing::{ListedFrame, SegmentTrack};
 use crate::lists::{Fate, Range};
 use crate::names::Kind;
+use crate::reader::LumpReader;
 
 /// The number of the layout and of the functions below; the library has its own to compare.
-pub const ABI: u32 = 6;
+pub const ABI: u32 = 7;
 
 /// What a call answers: its refusal, 0 for none, and how many lines, ranges or frames it wrote, or
 /// of the walk, how many frames it takes.
@@ -39,6 +40,13 @@ pub struct BatchAnswer {
 pub struct Batched {
     pub head: Head,
     pub answer: BatchAnswer,
+}
+
+/// What taking a lump hands back.
+#[repr(C)]
+pub struct Lumped {
+    pub reader: LumpReader,
+    pub answer: Answer,
 }
 
 /// What reading the settings answers.
@@ -137,4 +145,21 @@ extern "C" {
         frames: *mut ListedFrame,
         places: usize,
     ) -> Answer;
+    pub fn galumper_lent_take_lump(
+        reader: LumpReader,
+        buffer: *mut u8,
+        size: usize,
+        lump: *const u8,
+        length: usize,
+    ) -> Lumped;
+    pub fn galumper_lent_take_last(
+        reader: LumpReader,
+        of: SegmentTrack,
+        buffer: *const u8,
+        size: usize,
+        lump: *const u8,
+        length: usize,
+        frames: *mut ListedFrame,
+        places: usize,
+    ) -> Lumped;
 }

@@ -28,7 +28,9 @@ mod calls;
 mod foreign;
 mod listing;
 mod lists;
+mod lump;
 mod names;
+mod reader;
 mod segment;
 
 pub use batch::{Batch, BATCH, BATCH_FATES};
@@ -39,5 +41,7 @@ pub use buffer::{
 pub use calls::{create, matches, Reading};
 pub use listing::{ListedFrame, SegmentTrack};
 pub use lists::{held, Fate, Range, FATES, RANGES};
+pub use lump::LUMP;
 pub use names::{Cause, Kind, Mode, Refusal};
+pub use reader::LumpReader;
 pub use segment::list_segment;

@@ -4,11 +4,11 @@
 use std::error::Error;
 use std::fmt;
 
-/// Why a call is refused. A refused call changes nothing: buffer and lists stay as they were.
+/// Why a call is refused. A refused call changes nothing: buffer, reader and lists stay as they were.
 #[non_exhaustive]
 #[derive(Clone, Copy, Debug, PartialEq, Eq, Hash)]
 pub enum Refusal {
-    /// The buffer is not well-formed.
+    /// The buffer is not well-formed, or the lump reader is none to which bytes lead.
     IllFormed = 1,
     /// A fate list of fewer than 1,024 lines, or 1,088 for a batch.
     ShortFates = 2,
@@ -34,8 +34,11 @@ pub enum Refusal {
     /// A segment with a box that overruns, is too short, has size 0 or an unknown version, or with
     /// a movie fragment, a track fragment's header or a decode time missing, doubled or after a run.
     Malformed = 12,
-    /// What is lent has a size that the call does not take: a batch of more than 64 frames.
+    /// What is lent has a size that the call does not take: a batch of more than 64 frames, a lump of
+    /// more than 65,536 bytes, or a lump buffer of fewer.
     LentSize = 13,
+    /// A movie fragment box of more than 65,536 bytes in a segment that comes in lumps.
+    LargeFragment = 14,
 }
 
 impl Refusal {
@@ -54,6 +57,7 @@ impl Refusal {
         Self::Kinds,
         Self::Malformed,
         Self::LentSize,
+        Self::LargeFragment,
     ];
 
     /// Its number, which is the same in every language.
@@ -71,7 +75,7 @@ impl Refusal {
 impl fmt::Display for Refusal {
     fn fmt(&self, f: &mut fmt::Formatter<'_>) -> fmt::Result {
         f.pad(match self {
-            Self::IllFormed => "the buffer is not well-formed",
+            Self::IllFormed => "the buffer or lump reader is not well-formed",
             Self::ShortFates => "the fate list has too few lines",
             Self::NoTrack => "the buffer has no such track",
             Self::FrameLimits => "a frame or timescale is outside the limits",
@@ -84,6 +88,7 @@ impl fmt::Display for Refusal {
             Self::Kinds => "no track, more than four, or an unknown kind",
             Self::Malformed => "the segment is not well-formed",
             Self::LentSize => "what is lent has a size that the call does not take",
+            Self::LargeFragment => "a movie fragment is too large for lumps",
         })
     }
 }

@@ -1,14 +1,19 @@
-//! Every call fits on a small stack, also where the buffer gives it all the work there is.
+//! Every call fits on a small stack, also where the buffer or the segment gives it all the work there is.
 
 use std::thread;
 
 use galumper::{
-    Buffer, Fate, Kind, ListedFrame, Mode, Offered, Range, SegmentTrack, BATCH, BATCH_FATES, FATES,
-    PLACES, RANGES,
+    Buffer, Fate, Kind, ListedFrame, LumpReader, Mode, Offered, Range, SegmentTrack, BATCH,
+    BATCH_FATES, FATES, LUMP, PLACES, RANGES,
 };
 
-/// What a thread needs for any call, with the few kilobytes of its own.
+/// What a thread needs for any call on a buffer and for a whole segment, with the few kilobytes of its
+/// own.
 const STACK: usize = 64 * 1024;
+
+/// What it needs for a lump: there a movie fragment is put together that lies astride the lump buffer and
+/// the last lump.
+const LUMP_STACK: usize = 72 * 1024;
 
 const KINDS: [Kind; 4] = [Kind::VIDEO, Kind::AUDIO, Kind::VIDEO, Kind::AUDIO];
 
@@ -73,10 +78,17 @@ const OF: SegmentTrack = SegmentTrack {
     flags: 0,
 };
 
+/// Makes calls on a thread with so many bytes of stack.
+fn on_a_stack(bytes: usize, calls: impl FnOnce() + Send + 'static) {
+    let thread = thread::Builder::new().stack_size(bytes).spawn(calls);
+    let joined = thread.expect("a thread").join();
+    joined.expect("calls that are done");
+}
+
 #[test]
 fn every_call_on_a_small_stack() {
     let mut buffer = full();
-    let calls = move || {
+    on_a_stack(STACK, move || {
         let (mut fates, mut list) = (vec![Fate::default(); FATES], vec![Range::default(); RANGES]);
         assert_eq!(buffer.track_ranges(1, &mut list), Ok(256));
         assert_eq!(buffer.common_ranges(&mut list), Ok(256));
@@ -98,8 +110,32 @@ fn every_call_on_a_small_stack() {
         assert!(galumper::create(&KINDS).is_ok());
         let mut frames = vec![ListedFrame::default(); 1024];
         assert_eq!(galumper::list_segment(OF, SEGMENT, &mut frames), Ok(1024));
-    };
-    let thread = thread::Builder::new().stack_size(STACK).spawn(calls);
-    let joined = thread.expect("a thread").join();
-    joined.expect("calls that are done");
+    });
+}
+
+/// The same segment, its movie fragment filled up to the largest.
+fn largest() -> Vec<u8> {
+    let mut segment = SEGMENT.to_vec();
+    let free = (LUMP - segment.len()) as u32;
+    segment.extend_from_slice(&free.to_be_bytes());
+    segment.extend_from_slice(b"free");
+    segment.resize(LUMP, 0);
+    segment[..4].copy_from_slice(&(LUMP as u32).to_be_bytes());
+    segment
+}
+
+#[test]
+fn a_segment_in_two_lumps() {
+    let segment = largest();
+    on_a_stack(LUMP_STACK, move || {
+        let (mut reader, mut buffer) = (LumpReader::default(), vec![0; LUMP]);
+        let mut frames = vec![ListedFrame::default(); 1024];
+        for place in [0, 100, LUMP - 1, LUMP] {
+            let (first, last) = segment.split_at(place);
+            let taken = reader.take_lump(OF, &mut buffer, first, false, &mut []);
+            assert_eq!(taken, Ok(0));
+            let listed = reader.take_lump(OF, &mut buffer, last, true, &mut frames);
+            assert_eq!(listed, Ok(1024));
+        }
+    });
 }

@@ -1,8 +1,9 @@
 //! Reading a call of a script.
 
-use second::{Mode, Offered, SegmentTrack, BATCH_LINES, FRAME_PLACES};
+use second::{Mode, Offered, SegmentTrack, BATCH_LINES, FRAME_PLACES, LUMP_BYTES};
 
 use crate::lines::LONGEST_LINE;
+use crate::lump::{Lump, LONGEST_BUFFER};
 use crate::poke::Poke;
 use crate::words::{bytes, flag, mode, natural, seconds, whole};
 
@@ -37,6 +38,10 @@ pub enum Call {
     Walked(u32, usize),
     /// Lists a track's frames from a segment.
     Segment(SegmentTrack, Vec<u8>, usize),
+    /// Takes a lump of a segment, and where it is the last lists a track's frames.
+    Lump(Lump),
+    /// Makes the reader of lumps a fresh one.
+    LumpFresh,
     /// Prints the state.
     State,
     /// Takes a slot in use.
@@ -85,6 +90,9 @@ impl Call {
 
     fn read_line(line: &str) -> Option<Self> {
         let mut words = words(line)?;
+        if words.first() == Some(&"lump") {
+            return read_lump(words).map(Self::Lump);
+        }
         let length = lent(&mut words)?;
         Some(match *words {
             ["create", ref kinds @ ..] => Self::Create(
@@ -104,18 +112,10 @@ impl Call {
             ["ranges", track] => Self::Ranges(natural(track)?, length),
             ["common"] => Self::Common(length),
             ["walked", track] => Self::Walked(natural(track)?, length),
-            ["segment", id, track, timescale, duration, size, flags, segment] => Self::Segment(
-                SegmentTrack {
-                    id: whole(id)?,
-                    track: whole(track)?,
-                    timescale: whole(timescale)?,
-                    duration: whole(duration)?,
-                    size: whole(size)?,
-                    flags: whole(flags)?,
-                },
-                bytes(segment)?,
-                length,
-            ),
+            ["segment", ref asked @ .., segment] => {
+                Self::Segment(segment_track(asked)?, bytes(segment)?, length)
+            }
+            ["lump-fresh"] => Self::LumpFresh,
             ["state"] => Self::State,
             ["buffer", "1"] => Self::Buffer(0),
             ["buffer", "2"] => Self::Buffer(1),
@@ -139,12 +139,61 @@ fn lent(words: &mut Vec<&str>) -> Option<usize> {
     let Some((_, name, default)) = row else {
         return Some(0);
     };
-    let said = words.last().and_then(|word| word.split_once('='));
-    let Some((_, count)) = said.filter(|(said, _)| said == name) else {
-        return Some(*default);
+    length(said(words, name), *default, LONGEST_LIST)
+}
+
+/// A lump by its words. Those on what it is lent stand at the end in any order.
+fn read_lump(mut words: Vec<&str>) -> Option<Lump> {
+    let places = said(&mut words, "places");
+    let buffer = said(&mut words, "buffer");
+    let places = places.or_else(|| said(&mut words, "places"));
+    let ["lump", end, ref asked @ .., lump] = *words else {
+        return None;
     };
+    Some(Lump {
+        last: match end {
+            "more" => false,
+            "last" => true,
+            _ => return None,
+        },
+        of: segment_track(asked)?,
+        bytes: bytes(lump)?,
+        places: length(places, LONGEST_LIST, LONGEST_LIST)?,
+        buffer: length(buffer, LUMP_BYTES, LONGEST_BUFFER)?,
+    })
+}
+
+/// What the word `name=K` says, which is taken off the end if it is there.
+fn said<'w>(words: &mut Vec<&'w str>, name: &str) -> Option<&'w str> {
+    let (_, count) = words
+        .last()?
+        .split_once('=')
+        .filter(|(said, _)| *said == name)?;
     words.pop();
-    whole(count).filter(|&count| count <= LONGEST_LIST)
+    Some(count)
+}
+
+/// The length that a word says, or the default where there is none.
+fn length(said: Option<&str>, default: usize, longest: usize) -> Option<usize> {
+    match said {
+        Some(count) => whole(count).filter(|&count| count <= longest),
+        None => Some(default),
+    }
+}
+
+/// The track of a segment that is listed, by its words.
+fn segment_track(words: &[&str]) -> Option<SegmentTrack> {
+    let &[id, track, timescale, duration, size, flags] = words else {
+        return None;
+    };
+    Some(SegmentTrack {
+        id: whole(id)?,
+        track: whole(track)?,
+        timescale: whole(timescale)?,
+        duration: whole(duration)?,
+        size: whole(size)?,
+        flags: whole(flags)?,
+    })
 }
 
 /// How many frames a batch has and how long its fate list is, by its first line.
@@ -256,6 +305,67 @@ mod tests {
         for bad in ["", "0", "00f", "0F", "0x", "--", "0-"] {
             assert_eq!(Call::read(&format!("{line} {bad}")), None, "{bad}");
         }
+    }
+
+    #[test]
+    fn a_lump_in_digits() {
+        let lump = |last, bytes: &[u8], places, buffer| {
+            let of = SegmentTrack {
+                id: 1,
+                track: 2,
+                timescale: 3,
+                duration: 4,
+                size: 5,
+                flags: 6,
+            };
+            let bytes = bytes.to_vec();
+            Some(Call::Lump(Lump {
+                last,
+                of,
+                bytes,
+                places,
+                buffer,
+            }))
+        };
+        let more = "lump more 1 2 3 4 5 6";
+        for (words, places, buffer) in [
+            ("", 4096, 65_536),
+            (" places=7", 7, 65_536),
+            (" buffer=65535", 4096, 65_535),
+            (" places=0 buffer=0", 0, 0),
+            (" buffer=131072 places=4096", 4096, 131_072),
+        ] {
+            let read = Call::read(&format!("{more} 00ff{words}"));
+            assert_eq!(read, lump(false, &[0x00, 0xff], places, buffer), "{words}");
+        }
+        let last = Call::read("lump last 1 2 3 4 5 6 -");
+        assert_eq!(last, lump(true, &[], 4096, 65_536));
+        let long = Call::read(&format!("{more} {}", "00".repeat(65_600)));
+        assert_eq!(long, lump(false, &[0; 65_600], 4096, 65_536));
+        for bad in [
+            "lump",
+            "lump more",
+            "lump next 1 2 3 4 5 6 -",
+            "lump more 1 2 3 4 5 -",
+            "lump more 1 2 3 4 5 6 7 -",
+            "lump more 1 2 3 4 5 4294967296 -",
+            "lump more 1 2 3 4 5 6 -0",
+            "lump more 1 2 3 4 5 6 00f",
+            "lump more 1 2 3 4 5 6 - fates=7",
+            "lump more 1 2 3 4 5 6 - places=4097",
+            "lump more 1 2 3 4 5 6 - buffer=131073",
+            "lump more 1 2 3 4 5 6 - buffer=",
+            "lump more 1 2 3 4 5 6 - buffer=-1",
+            "lump more 1 2 3 4 5 6 - places=1 places=1",
+            "lump more 1 2 3 4 5 6 - buffer=1 buffer=1",
+            "lump more 1 2 3 4 5 6 - places=1 buffer=1 places=1",
+            "lump more 1 2 3 4 5 6 places=1 -",
+            "lump-fresh 1",
+            "lump-fresh places=1",
+        ] {
+            assert_eq!(Call::read(bad), None, "{bad}");
+        }
+        assert_eq!(Call::read("lump-fresh"), Some(Call::LumpFresh));
     }
 
     #[test]

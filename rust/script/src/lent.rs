@@ -21,18 +21,18 @@ impl<T: Copy + PartialEq> Lent<T> {
         &mut self.places
     }
 
-    /// The answer to the call that has just returned: the refusal, or the word and the list up to
+    /// The answer to the call that has just returned: the refusal, or the words and the list up to
     /// the count; and `touched` if any other place was written, or the count exceeds the list.
     pub(crate) fn answer(
         &self,
         result: Result<usize, u32>,
-        word: &str,
+        words: &str,
         show: impl Fn(&T) -> String,
     ) -> String {
         let count = result.unwrap_or(0);
         let written = count.min(self.places.len());
         let mut answer = match result {
-            Ok(_) => format!("ok {word}"),
+            Ok(_) => words.to_string(),
             Err(refusal) => format!("refused {refusal}"),
         };
         for line in &self.places[..written] {
@@ -40,10 +40,19 @@ impl<T: Copy + PartialEq> Lent<T> {
             answer.push_str(&show(line));
         }
         let strays = self.places[written..].iter().any(|line| *line != self.mark);
-        if strays || written < count {
-            answer.push_str(" touched");
+        match strays || written < count {
+            true => touched(answer),
+            false => answer,
         }
-        answer
+    }
+}
+
+/// An answer that ends with `touched`.
+pub(crate) fn touched(answer: String) -> String {
+    const WORD: &str = " touched";
+    match answer.ends_with(WORD) {
+        true => answer,
+        false => answer + WORD,
     }
 }
 
@@ -57,7 +66,7 @@ mod tests {
         for &place in writes {
             list[place] = 5;
         }
-        lent.answer(result, "numbers", i32::to_string)
+        lent.answer(result, "ok numbers", i32::to_string)
     }
 
     #[test]
@@ -67,5 +76,12 @@ mod tests {
         assert_eq!(answer(3, &[], Err(8)), "refused 8");
         assert_eq!(answer(3, &[2], Err(8)), "refused 8 touched");
         assert_eq!(answer(1, &[0], Ok(2)), "ok numbers 5 touched");
+    }
+
+    #[test]
+    fn it_is_told_once() {
+        let told = touched("ok".to_string());
+        assert_eq!(told, "ok touched");
+        assert_eq!(touched(told.clone()), told);
     }
 }

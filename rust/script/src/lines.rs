@@ -4,7 +4,7 @@
 const BYTE_ORDER_MARK: char = '\u{feff}';
 
 /// A line has no more bytes than this, or it cannot be read.
-pub(crate) const LONGEST_LINE: usize = 131_071;
+pub(crate) const LONGEST_LINE: usize = 131_327;
 
 /// The lines of a script. A byte order mark at its start is passed over, and so is a carriage return
 /// at the end of a line: of several the last.

@@ -2,7 +2,7 @@
 
 use std::array;
 
-use galumper::{Buffer, Fate, Kind, ListedFrame, Range, Refusal, Track};
+use galumper::{Buffer, Fate, Kind, ListedFrame, LumpReader, Range, Refusal, Track, LUMP};
 use second::{
     End, Frame, Head, Maybe, Mode, Offered, Reading, Seconds, SegmentTrack, Settings, State,
     WindowEnd, TRACK_PLACES,
@@ -15,6 +15,12 @@ use crate::subject::{Declined, Subject};
 /// The proved library.
 #[derive(Clone, Copy, Debug, Default)]
 pub struct Proved;
+
+// The phases of a lump reader there.
+const HEADING: u32 = 0;
+const PASSING: u32 = 1;
+const KEEPING: u32 = 2;
+const STUCK: u32 = 3;
 
 fn numbered<A>(result: Result<A, Refusal>) -> Result<A, u32> {
     result.map_err(Refusal::number)
@@ -32,11 +38,23 @@ fn mode_there(mode: Mode) -> galumper::Mode {
     }
 }
 
+fn track_there(of: SegmentTrack) -> galumper::SegmentTrack {
+    galumper::SegmentTrack {
+        id: of.id,
+        track: of.track,
+        timescale: of.timescale,
+        duration: of.duration,
+        size: of.size,
+        flags: of.flags,
+    }
+}
+
 impl Subject for Proved {
     type State = Box<Buffer>;
     type Fate = Fate;
     type Stretch = Range;
     type Row = ListedFrame;
+    type Reader = LumpReader;
 
     fn create(&mut self, kinds: &[u32]) -> Result<Self::State, u32> {
         let kinds: Vec<Kind> = kinds.iter().copied().map(kind).collect();
@@ -135,15 +153,19 @@ impl Subject for Proved {
         segment: &[u8],
         list: &mut [ListedFrame],
     ) -> Result<usize, u32> {
-        let of = galumper::SegmentTrack {
-            id: of.id,
-            track: of.track,
-            timescale: of.timescale,
-            duration: of.duration,
-            size: of.size,
-            flags: of.flags,
-        };
-        numbered(galumper::list_segment(of, segment, list))
+        numbered(galumper::list_segment(track_there(of), segment, list))
+    }
+
+    fn take_lump(
+        &mut self,
+        reader: &mut LumpReader,
+        of: SegmentTrack,
+        buffer: &mut [u8],
+        lump: &[u8],
+        last: bool,
+        list: &mut [ListedFrame],
+    ) -> Result<usize, u32> {
+        numbered(reader.take_lump(track_there(of), buffer, lump, last, list))
     }
 
     fn view(&self, buffer: &Self::State) -> State {
@@ -197,6 +219,47 @@ impl Subject for Proved {
             Poke::Frame(place, field) => poke_frame(buffer, place, field)?,
         }
         Ok(())
+    }
+
+    /// Each fails one clause of what is asked of a reader, and there is one for every clause.
+    fn damaged_readers(&self, reader: &LumpReader) -> Vec<LumpReader> {
+        let met = |fragments, kept, reader| LumpReader {
+            fragments,
+            kept,
+            ..reader
+        };
+        let between = met(reader.fragments, reader.kept, LumpReader::default());
+        let at = |phase, left| LumpReader {
+            phase,
+            left,
+            ..between
+        };
+        let seen = |seen, reader| LumpReader { seen, ..reader };
+        let large = LumpReader {
+            head: *b"\0\0\0\x01mdat\0\0\0\0\0\0\0\x11",
+            ..between
+        };
+        let full = LUMP - 8; // the body of the largest movie fragment
+        vec![
+            large,
+            met(3, 0, between),
+            met(1, full + 1, between),
+            met(0, 1, between),
+            seen(16, large),
+            seen(8, between),
+            at(HEADING, 1),
+            seen(1, at(PASSING, 1)),
+            at(PASSING, 0),
+            at(PASSING, u64::MAX),
+            met(1, 0, seen(1, at(KEEPING, 1))),
+            met(1, 0, at(KEEPING, 0)),
+            met(1, full, at(KEEPING, 1)),
+            met(0, 0, at(KEEPING, 1)),
+            met(2, 0, at(KEEPING, 1)),
+            seen(1, at(STUCK, 0)),
+            at(STUCK, 1),
+            at(STUCK + 1, 0),
+        ]
     }
 }
 

@@ -1,11 +1,12 @@
-//! A session: two slots for buffers, one saved state, and the lists that are lent.
+//! A session: two slots for buffers, one saved state, one reader of lumps, and the lists that are lent.
 
 use second::{Reading, WindowEnd};
 
 use crate::batch::{row_of, Batch};
 use crate::call::Call;
-use crate::lent::Lent;
+use crate::lent::{touched, Lent};
 use crate::lines::is_silent;
+use crate::lump::{Lump, LumpBuffer};
 use crate::place::Place;
 use crate::print::{bits, state_line};
 use crate::subject::{Declined, Subject};
@@ -24,6 +25,8 @@ pub struct Session<'a, S: Subject> {
     fates: Lent<S::Fate>,
     ranges: Lent<S::Stretch>,
     rows: Lent<S::Row>,
+    reader: S::Reader,
+    lumps: LumpBuffer,
 }
 
 impl<'a, S: Subject> Session<'a, S> {
@@ -37,6 +40,8 @@ impl<'a, S: Subject> Session<'a, S> {
             fates: Lent::new(Place::of(FATE_MARK)),
             ranges: Lent::new(Place::of(STRETCH_MARK)),
             rows: Lent::new(Place::of(ROW_MARK)),
+            reader: S::Reader::default(),
+            lumps: LumpBuffer::default(),
         }
     }
 
@@ -81,7 +86,7 @@ impl<'a, S: Subject> Session<'a, S> {
             Call::Create(kinds) => done(subject.create(&kinds).map(|state| *slot = Some(state))),
             Call::Append(offered, length) => {
                 let result = subject.append(slot.as_mut()?, &offered, self.fates.lend(length));
-                self.fates.answer(result, "fates", fate)
+                self.fates.answer(result, "ok fates", fate)
             }
             Call::Batch(frames, length) => {
                 let rows: Vec<S::Row> = frames.iter().map(|f| Place::of(row_of(f))).collect();
@@ -92,7 +97,7 @@ impl<'a, S: Subject> Session<'a, S> {
             }
             Call::Remove(start, end, length) => {
                 let result = subject.remove(slot.as_mut()?, start, end, self.fates.lend(length));
-                self.fates.answer(result, "fates", fate)
+                self.fates.answer(result, "ok fates", fate)
             }
             Call::Abort => done(subject.abort(slot.as_mut()?)),
             Call::Mode(mode) => done(subject.set_mode(slot.as_mut()?, mode)),
@@ -103,16 +108,21 @@ impl<'a, S: Subject> Session<'a, S> {
             Call::Ranges(track, length) => {
                 let list = self.ranges.lend(length);
                 let result = subject.track_ranges(slot.as_ref()?, track, list);
-                self.ranges.answer(result, "ranges", stretch)
+                self.ranges.answer(result, "ok ranges", stretch)
             }
             Call::Common(length) => {
                 let result = subject.common_ranges(slot.as_ref()?, self.ranges.lend(length));
-                self.ranges.answer(result, "ranges", stretch)
+                self.ranges.answer(result, "ok ranges", stretch)
             }
             Call::Walked(track, places) => taken(subject.walked(slot.as_ref()?, track, places)),
             Call::Segment(of, segment, length) => {
                 let result = subject.list_segment(of, &segment, self.rows.lend(length));
-                self.rows.answer(result, "samples", row)
+                self.rows.answer(result, "ok samples", row)
+            }
+            Call::Lump(lump) => self.take_lump(&lump),
+            Call::LumpFresh => {
+                self.reader = S::Reader::default();
+                done(Ok(()))
             }
             Call::State => state_line(&subject.view(slot.as_ref()?)),
             Call::Buffer(number) => {
@@ -132,6 +142,26 @@ impl<'a, S: Subject> Session<'a, S> {
                 Err(Declined) => "declined".to_string(),
             },
         })
+    }
+
+    /// The answer to a lump. Before the end none is listed: a count that is not 0 would show.
+    fn take_lump(&mut self, lump: &Lump) -> String {
+        let before = self.reader.clone();
+        let result = self.subject.take_lump(
+            &mut self.reader,
+            lump.of,
+            self.lumps.lend(lump.buffer),
+            &lump.bytes,
+            lump.last,
+            self.rows.lend(lump.places),
+        );
+        let words = if lump.last { "ok samples" } else { "ok" };
+        let answer = self.rows.answer(result, words, row);
+        let moved = result.is_err() && self.reader != before;
+        match moved || self.lumps.is_touched(result.is_err()) {
+            true => touched(answer),
+            false => answer,
+        }
     }
 }
 
@@ -167,7 +197,7 @@ fn settings(result: Result<Reading, u32>) -> String {
 /// What stands before the fate lines of a batch.
 fn batch_words(batch: &Batch) -> String {
     let (accepted, stop) = (batch.accepted, batch.stop.unwrap_or(0));
-    format!("batch {accepted} {stop} fates")
+    format!("ok batch {accepted} {stop} fates")
 }
 
 fn fate(line: &impl Place<u32, 2>) -> String {
@@ -210,13 +240,17 @@ mod tests {
         assert_eq!(answers(script), wanted);
     }
 
+    /// A movie fragment with one track fragment of track 1: a header, a decode time of 5 and a run of
+    /// one sample.
+    fn segment() -> String {
+        let digits = "000000446d6f6f66 0000003c74726166 0000001074666864 0000000000000001 \
+                      0000001074666474 0000000000000005 000000147472756e 0000000000000001 00000000";
+        digits.replace(' ', "")
+    }
+
     #[test]
     fn a_segment_needs_no_state() {
-        // A movie fragment with one track fragment of track 1: a header, a decode time of 5 and a
-        // run of one sample.
-        let segment = "000000446d6f6f66 0000003c74726166 0000001074666864 0000000000000001 \
-                       0000001074666474 0000000000000005 000000147472756e 0000000000000001 00000000";
-        let segment = segment.replace(' ', "");
+        let segment = segment();
         let call = format!("segment 1 2 1000 40 9 0 {segment}");
         let script = format!(
             "{call}\n{call} places=0\nsegment 1 2 0 40 9 0 {segment}\nsegment 1 2 1000 40 9 0 -"
@@ -227,6 +261,51 @@ mod tests {
             "refused 4",
             "refused 12",
         ];
+        assert_eq!(answers(&script), wanted);
+        assert_eq!(answers_of(&mut Proved, &script), wanted);
+    }
+
+    #[test]
+    fn lumps_need_no_state() {
+        let segment = segment();
+        let (first, second) = segment.split_at(50);
+        let (more, last) = ("lump more 1 2 1000 40 9 0", "lump last 1 2 1000 40 9 0");
+        let calls = [
+            format!("{more} {first}"),
+            format!("{more} -"),
+            format!("{more} {second} buffer=65535"),
+            format!("{more} {}", "00".repeat(65_537)),
+            format!("{last} {second} places=0"),
+            format!("lump last 1 2 0 40 9 0 {second}"),
+            format!("{last} -"),
+            format!("{more} {second} buffer=131072"),
+            format!("{more} 000100016d6f6f66"),
+            format!("{last} 00"),
+            format!("{last} - places=1"),
+            format!("{last} -"),
+            format!("{more} {first}"),
+            "lump-fresh".to_string(),
+            format!("{last} {segment}"),
+        ];
+        let listed = "ok samples (2,5000,5000,40000,1,9)";
+        let wanted = [
+            "ok",
+            "ok",
+            "refused 13",
+            "refused 13",
+            "refused 10",
+            "refused 4",
+            "refused 12",
+            "ok",
+            "refused 14",
+            "refused 12",
+            listed,
+            "refused 12",
+            "ok",
+            "ok",
+            listed,
+        ];
+        let script = calls.join("\n");
         assert_eq!(answers(&script), wanted);
         assert_eq!(answers_of(&mut Proved, &script), wanted);
     }

@@ -1,10 +1,11 @@
 //! What an implementation must offer to be driven by scripts, and how `second` offers it.
 
+use std::fmt::Debug;
 use std::num::TryFromIntError;
 
 use second::{
-    Fate, Maybe, Mode, Offered, Reading, Refusal, Row, SegmentTrack, State, Stretch, Trace,
-    FRAME_PLACES, TRACK_PLACES,
+    CutHeader, Fate, LumpFragment, LumpPlace, LumpReader, Maybe, Mode, Offered, Reading, Refusal,
+    Row, SegmentTrack, State, Stretch, Trace, FRAME_PLACES, LUMP_BYTES, TRACK_PLACES,
 };
 
 use crate::batch::Batch;
@@ -23,6 +24,8 @@ pub trait Subject {
     /// A place of the frame lists that it is lent, to be read or to be written: track, presentation
     /// time, decode time, duration, flag, size.
     type Row: Place<i64, 6>;
+    /// The reader of a segment that comes in lumps, a plain value. The default is a fresh one.
+    type Reader: Clone + Default + PartialEq + Debug;
 
     /// Creates a buffer.
     fn create(&mut self, kinds: &[u32]) -> Result<Self::State, u32>;
@@ -82,11 +85,27 @@ pub trait Subject {
         segment: &[u8],
         list: &mut [Self::Row],
     ) -> Result<usize, u32>;
+    /// Takes a lump of a segment, and where it is the last lists a track's frames. No buffer of frames
+    /// takes part in it.
+    fn take_lump(
+        &mut self,
+        reader: &mut Self::Reader,
+        of: SegmentTrack,
+        buffer: &mut [u8],
+        lump: &[u8],
+        last: bool,
+        list: &mut [Self::Row],
+    ) -> Result<usize, u32>;
 
     /// The state as it lies, in the words of `second`; not a call of the buffer.
     fn view(&self, state: &Self::State) -> State;
     /// Writes one field of the state as it lies; not a call of the buffer.
     fn poke(&mut self, state: &mut Self::State, poke: &Poke) -> Result<(), Declined>;
+    /// Readers that no call hands out, made of one that a call did; none where they cannot be made.
+    /// Not a call of the buffer.
+    fn damaged_readers(&self, _reader: &Self::Reader) -> Vec<Self::Reader> {
+        Vec::new()
+    }
 }
 
 /// A state cannot hold what a poke asks.
@@ -115,6 +134,7 @@ impl<T: Trace> Subject for Second<T> {
     type Fate = Fate;
     type Stretch = Stretch;
     type Row = Row;
+    type Reader = LumpReader;
 
     fn create(&mut self, kinds: &[u32]) -> Result<State, u32> {
         numbered(second::create(kinds))
@@ -220,6 +240,26 @@ impl<T: Trace> Subject for Second<T> {
         ))
     }
 
+    fn take_lump(
+        &mut self,
+        reader: &mut LumpReader,
+        of: SegmentTrack,
+        buffer: &mut [u8],
+        lump: &[u8],
+        last: bool,
+        list: &mut [Row],
+    ) -> Result<usize, u32> {
+        numbered(second::take_lump_traced(
+            of,
+            reader,
+            buffer,
+            lump,
+            last,
+            list,
+            &mut self.trace,
+        ))
+    }
+
     fn view(&self, state: &State) -> State {
         *state
     }
@@ -248,6 +288,24 @@ impl<T: Trace> Subject for Second<T> {
             Poke::Frame(place, field) => poke_frame(&mut state.frames, place, field)?,
         }
         Ok(())
+    }
+
+    fn damaged_readers(&self, reader: &LumpReader) -> Vec<LumpReader> {
+        let at = |place| LumpReader { place, ..*reader };
+        let with = |place, fragment| LumpReader { place, fragment };
+        let header = |bytes, count| LumpPlace::Header(CutHeader { bytes, count });
+        let body = |left, kept| LumpPlace::Body { left, kept };
+        let full = LUMP_BYTES - 8; // the body of the largest movie fragment
+        vec![
+            at(header([0; 16], 16)),
+            at(header([0; 16], 8)),
+            at(header([1; 16], 1)),
+            at(body(0, false)),
+            with(body(1, true), LumpFragment::None),
+            with(body(1, true), LumpFragment::Several),
+            with(body(1, true), LumpFragment::One(full)),
+            with(reader.place, LumpFragment::One(full + 1)),
+        ]
     }
 }
 

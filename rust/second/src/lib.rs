@@ -6,13 +6,15 @@
 //! with public fields, so that tests can hand in any state, also a damaged one.
 //!
 //! Every call on a state judges that first, gives the first refusal that applies in the paper's
-//! order, and leaves state and lent lists alone when it refuses. Listing a segment takes no state.
+//! order, and leaves state and lent lists alone when it refuses. Listing a segment takes no state, and
+//! where it comes in lumps, a reader that is judged as a state is.
 
 #![forbid(unsafe_code)]
 
 mod append;
 mod batch;
 mod fault;
+mod lump;
 mod named;
 mod numbers;
 mod ranges;
@@ -30,6 +32,9 @@ mod well_formed;
 pub use append::{append, append_traced};
 pub use batch::{append_batch, append_batch_traced, Batch, BATCH_FRAMES, BATCH_LINES};
 pub use fault::Fault;
+pub use lump::{
+    take_lump, take_lump_traced, CutHeader, LumpFragment, LumpPlace, LumpReader, LUMP_BYTES,
+};
 pub use numbers::{micros, quotient, LONGEST_DURATION, OFFERED_LIMIT, RESULT_LIMIT, SECONDS_LIMIT};
 pub use ranges::{common_ranges, track_ranges, walked, Stretch};
 pub use refusal::{Cause, Fate, Refusal};
@@ -42,5 +47,5 @@ pub use settings::{
 pub use state::{
     create, Frame, Head, Maybe, Mode, Offered, State, Track, FRAME_PLACES, TRACK_PLACES,
 };
-pub use trace::{BatchBranch, Branch, Framing, Parent, SegmentBranch, Trace};
+pub use trace::{BatchBranch, Branch, Framing, LumpBranch, Parent, SegmentBranch, Trace};
 pub use well_formed::well_formed;

@@ -3,7 +3,7 @@
 /// Why a call was refused; the numbers are those of the paper's table.
 #[derive(Clone, Copy, Debug, PartialEq, Eq, Hash)]
 pub enum Refusal {
-    /// The state handed in is not well-formed.
+    /// The state handed in is not well-formed, or the reader of lumps is none that a call hands out.
     IllFormed = 1,
     /// The fate list has under 1,024 lines, or under 1,088 for a batch.
     ShortFates = 2,
@@ -27,8 +27,11 @@ pub enum Refusal {
     Creation = 11,
     /// A segment whose boxes are malformed, or one of them missing, doubled or after a run.
     Malformed = 12,
-    /// What is lent has a size that the call does not take: a list of over 64 frames.
+    /// What is lent has a size that the call does not take: a list of over 64 frames, a lump of over
+    /// 65,536 bytes, or a buffer of under 65,536 for lumps.
     LentSize = 13,
+    /// A movie fragment box of over 65,536 bytes, in a segment that comes in lumps.
+    LargeFragment = 14,
 }
 
 impl Refusal {

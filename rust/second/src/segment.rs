@@ -4,7 +4,7 @@
 //! The order of the refusals is that of the work: all boxes first (12), then every frame (4), then
 //! the places of the list (10). Nothing is written before all of them have passed.
 
-mod boxes;
+pub(crate) mod boxes;
 mod fragment;
 mod header;
 mod rows;
@@ -13,7 +13,7 @@ mod samples;
 
 use crate::refusal::Refusal;
 use crate::trace::{SegmentBranch, Trace};
-use fragment::{track_fragments, TrackFragment};
+use fragment::{movie_fragment, track_fragments, TrackFragment};
 pub use rows::{Row, SegmentTrack, FINEST_TIMESCALE};
 
 /// Lists a track's frames in file order; gives their count.
@@ -28,7 +28,19 @@ pub fn list_segment_traced<T: Trace>(
     list: &mut [Row],
     trace: &mut T,
 ) -> Result<usize, Refusal> {
-    let fragments = track_fragments(of, segment, trace)?;
+    let movie_fragment = movie_fragment(segment, trace)?;
+    list_movie_fragment(of, movie_fragment, list, trace)
+}
+
+/// [`list_segment_traced`] of a segment by the body of its movie fragment, where the framing of the
+/// boxes beside it has been judged.
+pub(crate) fn list_movie_fragment<T: Trace>(
+    of: SegmentTrack,
+    movie_fragment: &[u8],
+    list: &mut [Row],
+    trace: &mut T,
+) -> Result<usize, Refusal> {
+    let fragments = track_fragments(of, movie_fragment, trace)?;
     check_timescale(of.timescale, trace)?;
     let Some(places) = places_for(&fragments, list) else {
         samples::judge(of, &fragments, trace)?;

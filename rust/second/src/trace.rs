@@ -1,5 +1,5 @@
-//! The branches of append, batch, remove and the reader of segments, told to whoever wants to count
-//! them.
+//! The branches of append, batch, remove, the reader of segments and that of their lumps, told to
+//! whoever wants to count them.
 
 use crate::fault::Fault;
 use crate::named::named;
@@ -20,6 +20,10 @@ pub trait Trace {
 
     /// A branch of the reader of segments is taken.
     fn segment(&mut self, _branch: SegmentBranch) {}
+
+    /// A branch of the reader of lumps is taken. Those of the listing at the end are told as those of
+    /// any segment.
+    fn lump(&mut self, _branch: LumpBranch) {}
 }
 
 impl Trace for () {}
@@ -327,5 +331,121 @@ named! {
         ListsNone,
         /// lists some
         ListsSome,
+    }
+}
+
+named! {
+    /// A branch of the reader of lumps.
+    LumpBranch {
+        /// 1, a cut header of 16 bytes or more
+        HeaderOver,
+        /// 1, a cut header that is whole
+        HeaderWhole,
+        /// 1, bytes past those of a cut header
+        HeaderPast,
+        /// 1, a body of which nothing is to come
+        BodyOver,
+        /// 1, a body kept that is not the one movie fragment's
+        KeptOfNone,
+        /// 1, a movie fragment beyond the buffer
+        KeptBeyond,
+        /// 13, a lump of over 65,536 bytes
+        LumpLong,
+        /// 13, a buffer of under 65,536 bytes
+        BufferShort,
+        /// 14, by a 32-bit size
+        Large,
+        /// 14, by a 64-bit size
+        LargeBy64,
+        /// 14, for a second movie fragment
+        LargeSecond,
+        /// 14, after other bytes of the same lump
+        LargeAfterOthers,
+        /// 14, by a header that began in an earlier lump
+        LargeCut,
+        /// a lump of 65,536 bytes
+        LumpLongest,
+        /// a buffer of over 65,536 bytes
+        BufferLonger,
+        /// no bytes, and no end told
+        Nothing,
+        /// a header in one lump
+        HeaderAtOnce,
+        /// a header that began in an earlier lump
+        HeaderJoined,
+        /// a header with a 64-bit size in one lump
+        LargeHeaderAtOnce,
+        /// a header with a 64-bit size that began in an earlier lump
+        LargeHeaderJoined,
+        /// framing stopped by size 0
+        StoppedByZero,
+        /// framing stopped by a size under its header's 8
+        StoppedBySize,
+        /// framing stopped by a 64-bit size under its header's 16
+        StoppedByLargeSize,
+        /// a movie fragment, kept
+        Fragment,
+        /// a movie fragment of 65,536 bytes, kept
+        FragmentLargest,
+        /// a movie fragment that is its header alone
+        FragmentEmpty,
+        /// a second movie fragment, passed over
+        FragmentSecond,
+        /// another box, passed over
+        Other,
+        /// another box of over 32 bits, passed over
+        OtherHuge,
+        /// a lump that is all of the movie fragment's body
+        AllKept,
+        /// a lump that is all of another box's body
+        AllPassed,
+        /// a lump after the framing stopped
+        AllLost,
+        /// cut between two boxes
+        CutBetween,
+        /// cut in a header's first 8 bytes
+        CutInHeader,
+        /// cut before a 64-bit size
+        CutBeforeLargeSize,
+        /// cut in a 64-bit size
+        CutInLargeSize,
+        /// cut in the movie fragment's body
+        CutInKept,
+        /// cut in the body of another box
+        CutInPassed,
+        /// cut after the framing stopped
+        CutLost,
+        /// the end, told with no lump
+        EndAlone,
+        /// the end, told with a lump
+        EndWithLump,
+        /// 12, the end in a header's first 8 bytes
+        EndInHeader,
+        /// 12, the end in a 64-bit size
+        EndInLargeSize,
+        /// 12, the end in the movie fragment's body
+        EndInKept,
+        /// 12, the end in the body of another box
+        EndInPassed,
+        /// 12, the end after the framing stopped
+        EndLost,
+        /// 12, the end without a movie fragment
+        EndMissing,
+        /// 12, the end after several movie fragments
+        EndDoubled,
+        /// the movie fragment's body wholly in earlier lumps
+        BodyEarlier,
+        /// the movie fragment's body wholly in the last lump
+        BodyLast,
+        /// the movie fragment's body in earlier lumps and the last
+        BodyAstride,
+        /// 12 by the movie fragment
+        ListMalformed,
+        /// 4
+        ListLimits,
+        /// 10
+        ListShort,
+        /// listed, and the reader fresh
+        Listed,
     }
 }

@@ -7,7 +7,7 @@ use borrow.Author.Needs.{needs}
 use lib.ListN.{take}
 use Rattle.buffer_state.specs.Answers.{listAfter, appendResult}
 use Rattle.buffer_state.specs.Limits.{places}
-use Rattle.batch.proofs.PartLaws.{rest-lent, rest-length, rest-back}
+use Rattle.laws.proofs.PartLaws.{rest-lent, rest-length, rest-back}
 use Rattle.batch.proofs.append_at.Statement.{statement}
 use Rattle.batch.proofs.append_at.Tie as tie
 

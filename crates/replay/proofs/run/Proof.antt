@@ -5,10 +5,10 @@ use Rattle.replay.proofs.run.Statement.{statement}
 use Rattle.replay.proofs.run.Tie as tie
 
 abbrev Inv-loop : tie.InvT-loop
-Inv-loop chunk₀ line₀ rows₀ times₀ tags₀ second-times₀ second-tags₀ saved-times₀ saved-tags₀ out₀ s₀ r₀ kept₀ turns₀ chunk line rows times tags second-times second-tags saved-times saved-tags out s r kept turns = (r .from ≤ r .to) × (r .to ≤ 4096)
+Inv-loop chunk₀ line₀ rows₀ buffer₀ times₀ tags₀ second-times₀ second-tags₀ saved-times₀ saved-tags₀ out₀ standing₀ r₀ kept₀ turns₀ chunk line rows buffer times tags second-times second-tags saved-times saved-tags out standing r kept turns = (r .from ≤ r .to) × (r .to ≤ 4096)
 
 abbrev μ-loop : tie.MeasureT-loop
-μ-loop chunk₀ line₀ rows₀ times₀ tags₀ second-times₀ second-tags₀ saved-times₀ saved-tags₀ out₀ s₀ r₀ kept₀ turns₀ chunk line rows times tags second-times second-tags saved-times saved-tags out s r kept turns = turns
+μ-loop chunk₀ line₀ rows₀ buffer₀ times₀ tags₀ second-times₀ second-tags₀ saved-times₀ saved-tags₀ out₀ standing₀ r₀ kept₀ turns₀ chunk line rows buffer times tags second-times second-tags saved-times saved-tags out standing r kept turns = turns
 
 fresh-requires : tie.Need-fresh-requires Inv-loop μ-loop
 fresh-requires c κs = search needs

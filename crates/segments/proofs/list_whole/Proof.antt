@@ -1,65 +1,64 @@
--- `segments::list_whole` meets its contract: the walk that judges writes nothing. Assumes nothing.
-use mathlib.Core.Path.{_≡_, refl, sym, subst}
-use mathlib.Core.Bool.{false}
-use mathlib.Core.List.{List, []}
-use lib.IntN.{ℤ}
+-- `segments::list_whole` meets its contract: the one movie fragment decides. Assumes nothing.
+use mathlib.Core.Path.{refl, ap, _∙_}
+use Prim.Native.Nat.{_≤_}
 use lib.ListN.{length}
 use denote.Ref.{now}
-use Rattle.segments.specs.Listings.{segmentListing}
-use Rattle.segments.specs.Walks.{Further}
-use Rattle.segments.proofs.ListedLaws.{gives-malformed}
+use Rattle.boxes.proofs.LoneLaws.{lone-none, lone-body, lone-within}
+use Rattle.segments.proofs.ListedLaws.{segment-by-movie}
 use borrow.Author.Needs.{needs}
 use Rattle.segments.proofs.list_whole.Statement.{statement}
 use Rattle.segments.proofs.list_whole.Tie as tie
 
-judged : (c : tie.After-w) → let q = c .before .before .before in let a = q .before .before .before .args in
-    Further (a .of) false (now (a .list)) [] (segmentListing (a .of) (now (a .s))) (c .w .given .0 .0) (q .walk-segment .last .1 .1 .1 .0)
-judged c = rw (c .w .given .1) at (c .before .before .before .walk-segment .ensures)
+within : (c : tie.After-start) → let g = c .start .given .0 in (g .0 ≤ g .1 .0) × (g .1 .0 ≤ length (now (c .before .before .before .before .args .s)))
+within c = lone-within _ _ _ _ (c .before .before .lone .ensures .1) (c .start .given .1)
 
-unwritten : (c : tie.After-w) → let q = c .before .before .before in q .walk-segment .last .1 .1 .1 .0 ≡ now (q .before .before .before .args .list)
-unwritten c = judged c .standing .judging refl
-
-walk-segment-requires : tie.Need-walk-segment-requires
-walk-segment-requires c κs = search needs
+lone-requires : tie.Need-lone-requires
+lone-requires c κs = search needs
 
 enum-told : tie.Need-enum-told
 enum-told c = search needs
 
-enum-known-w : tie.Need-enum-known-w
-enum-known-w c = search needs
+enum-known-start : tie.Need-enum-known-start
+enum-known-start c = search needs
 
-listed-requires : tie.Need-listed-requires
-listed-requires c κs =
-    let k = c .before .before in
-    let q = k .before .before .before in
-    let a = q .before .before .before .args in
-    subst (λ (x : List (List ℤ)). Further (a .of) false x [] (segmentListing (a .of) (now (a .s))) (k .w .given .0 .0) (q .walk-segment .last .1 .1 .1 .0)) (sym (unwritten k)) (judged k)
+sub-list-movie : tie.Need-sub-list-movie
+sub-list-movie c = within (c .before) .0
+
+part-list-movie-start : tie.Need-part-list-movie-start
+part-list-movie-start c = within (c .before) .0
+
+part-list-movie-end : tie.Need-part-list-movie-end
+part-list-movie-end c = within (c .before) .1
+
+list-movie-requires : tie.Need-list-movie-requires
+list-movie-requires c κs = search needs
+
+returns : tie.Need-returns
+returns c =
+    let a = c .before .before .before .before .args in
+    rw (segment-by-movie (a .of) (length (now (a .list))) (now (a .s)), lone-none _ _ _ (c .before .before .lone .ensures .0) (c .enum-told .given .1)) (refl, refl)
 
 same-length : tie.Need-same-length
 same-length c = search needs
 
-returns : tie.Need-returns
-returns c =
-    let q = c .before .before .before in
-    let a = q .before .before .before .args in
-    let r = rw (c .enum-told .given .1) at (q .walk-segment .ensures) in
-    rw (gives-malformed (a .of) (now (a .s)) (length (now (a .list))) (r .0)) (refl, r .1 refl)
-
-same-length-2 : tie.Need-same-length-2
-same-length-2 c = search needs
-
 returns-2 : tie.Need-returns-2
-returns-2 c = rw (unwritten (c .before .before .before .before)) at (c .before .listed .ensures)
+returns-2 c =
+    let q = c .before in
+    let k = q .before .before .before .before in
+    let a = k .before .before .before .before .args in
+    rw (segment-by-movie (a .of) (length (now (a .list))) (now (a .s)), lone-body _ _ _ _ _ (k .before .before .lone .ensures .0) (k .start .given .1)) (q .list-movie .ensures)
 
 pub list-whole-spec : {M : Type 1} → statement M
 list-whole-spec =
     tie.close
     (tie.spec
-    walk-segment-requires
+    lone-requires
     enum-told
-    enum-known-w
-    listed-requires
-    same-length
+    enum-known-start
+    sub-list-movie
+    part-list-movie-start
+    part-list-movie-end
+    list-movie-requires
     returns
-    same-length-2
+    same-length
     returns-2)

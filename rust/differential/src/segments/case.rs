@@ -13,25 +13,34 @@ pub(crate) struct Case {
 impl Case {
     /// The call as a script has it.
     pub(crate) fn line(&self) -> String {
-        let SegmentTrack {
-            id,
-            track,
-            timescale,
-            duration,
-            size,
-            flags,
-        } = self.of;
-        let bytes = match self.bytes.is_empty() {
-            true => "-".to_string(),
-            false => self
-                .bytes
-                .iter()
-                .map(|byte| format!("{byte:02x}"))
-                .collect(),
-        };
-        let places = self.places;
-        format!(
-            "segment {id} {track} {timescale} {duration} {size} {flags} {bytes} places={places}"
-        )
+        let asked = asked(self.of, &self.bytes);
+        format!("segment {asked} places={}", self.places)
     }
+
+    /// The calls as a script has them by which the segment comes in two lumps.
+    pub(crate) fn lump_lines(&self) -> [String; 2] {
+        let (first, second) = self.bytes.split_at(self.bytes.len() / 2);
+        let [first, second] = [first, second].map(|lump| asked(self.of, lump));
+        [
+            format!("lump more {first}"),
+            format!("lump last {second} places={}", self.places),
+        ]
+    }
+}
+
+/// The words of a script for a track and the bytes of its segment, or of a lump.
+pub(crate) fn asked(of: SegmentTrack, bytes: &[u8]) -> String {
+    let SegmentTrack {
+        id,
+        track,
+        timescale,
+        duration,
+        size,
+        flags,
+    } = of;
+    let bytes = match bytes {
+        [] => "-".to_string(),
+        _ => bytes.iter().map(|byte| format!("{byte:02x}")).collect(),
+    };
+    format!("{id} {track} {timescale} {duration} {size} {flags} {bytes}")
 }

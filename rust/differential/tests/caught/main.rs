@@ -1,14 +1,17 @@
 //! Builds that are wrong in one thing each: the paper's idle ones, and the errors it has met.
-//! Every one of them must be told from `second` within a few scripts, segments or lists of rows.
+//! Every one of them must be told from `second` within a few scripts, segments, lists of rows or
+//! cuttings.
 
 mod batches;
 mod groups;
+mod lumps;
 mod segments;
 mod walks;
 
 use batches::WrongBatch;
 use differential::{run, Answers, Failure, Plan};
 use groups::WrongGroup;
+use lumps::{Lent, WrongLump, WrongReader};
 use script::{Batch, Declined, Poke, Second, Subject};
 use second::{
     micros, Branch, Fate, Frame, Maybe, Mode, Offered, Reading, Row, SegmentTrack, State, Stretch,
@@ -38,6 +41,7 @@ enum Wrong {
     DeclinesPokes,
     Batch(WrongBatch),
     Group(WrongGroup),
+    Lump(WrongLump),
     Segment(WrongSegment),
     Walk(WrongWalk),
 }
@@ -76,6 +80,7 @@ impl Subject for Build {
     type Fate = Fate;
     type Stretch = Stretch;
     type Row = Row;
+    type Reader = WrongReader;
 
     fn append(
         &mut self,
@@ -206,6 +211,34 @@ impl Subject for Build {
         }
     }
 
+    fn take_lump(
+        &mut self,
+        reader: &mut WrongReader,
+        of: SegmentTrack,
+        buffer: &mut [u8],
+        lump: &[u8],
+        last: bool,
+        list: &mut [Row],
+    ) -> Result<usize, u32> {
+        let Wrong::Lump(wrong) = self.wrong else {
+            let right = &mut reader.right;
+            return self.second.take_lump(right, of, buffer, lump, last, list);
+        };
+        let lent = Lent {
+            of,
+            buffer,
+            lump,
+            last,
+            list,
+        };
+        wrong.take(reader, lent)
+    }
+
+    fn damaged_readers(&self, reader: &WrongReader) -> Vec<WrongReader> {
+        let damaged = self.second.damaged_readers(&reader.right);
+        damaged.into_iter().map(WrongReader::of).collect()
+    }
+
     fn poke(&mut self, state: &mut State, poke: &Poke) -> Result<(), Declined> {
         match (self.wrong, poke) {
             (Wrong::DeclinesPokes, Poke::WindowEndDouble(_)) => Err(Declined),
@@ -290,16 +323,18 @@ fn first_pass_only(
 
 /// What is put to a wrong build.
 fn plan(wrong: Wrong) -> Plan {
-    let (scripts, segments, rows) = match wrong {
-        Wrong::Segment(_) => (0, 3_000, 0),
-        Wrong::Batch(wrong) if wrong.shows_in_rows() => (0, 0, 3_000),
-        _ => (3_000, 0, 0),
+    let (scripts, segments, rows, cuttings) = match wrong {
+        Wrong::Segment(_) => (0, 3_000, 0, 0),
+        Wrong::Lump(_) => (0, 0, 0, 10_000),
+        Wrong::Batch(wrong) if wrong.shows_in_rows() => (0, 0, 3_000, 0),
+        _ => (3_000, 0, 0, 0),
     };
     Plan {
         seed: 0,
         scripts,
         segments,
         rows,
+        cuttings,
     }
 }
 
@@ -394,6 +429,30 @@ fn every_wrong_reader_of_segments_is_caught() {
     for wrong in WrongSegment::ALL {
         let failure = put_to(Wrong::Segment(wrong)).expect_err("a difference");
         println!("{wrong:?}: {failure}\n");
+    }
+}
+
+#[test]
+fn every_wrong_reader_of_lumps_is_caught() {
+    for wrong in WrongLump::ALL {
+        let failure = put_to(Wrong::Lump(wrong)).expect_err("a difference");
+        let calls = failure.script.len();
+        println!("{wrong:?}: call {calls}, {}", failure.parting.other);
+    }
+    assert!(put_to(Wrong::Lump(WrongLump::Right)).is_ok());
+}
+
+#[test]
+fn a_reader_of_lumps_that_both_get_wrong_is_caught() {
+    for wrong in [
+        WrongLump::ListsTheLastLumpAlone,
+        WrongLump::LargeWithTheBody,
+        WrongLump::OneMoreIsTaken,
+        WrongLump::BeginsAnewWhenRefused,
+    ] {
+        let failure = put_to_both(Wrong::Lump(wrong));
+        let parting = failure.expect_err("what is due").parting;
+        assert!(parting.other.starts_with("due: "), "{parting}");
     }
 }
 

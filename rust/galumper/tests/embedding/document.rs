@@ -29,7 +29,7 @@ fn calls(header: &str) -> Vec<(String, String)> {
 #[test]
 fn every_call_with_its_refusals() {
     let (calls, document) = (calls(&header()), document());
-    assert_eq!(calls.len(), 15);
+    assert_eq!(calls.len(), 16);
     for (name, order) in calls {
         let (start, end) = (format!("| `{name}` | "), format!(" | {order} |"));
         let mut rows = document.lines().filter(|row| row.starts_with(&start));
@@ -63,7 +63,7 @@ fn every_refusal() {
 #[test]
 fn every_count() {
     let (header, document) = (header(), document());
-    let lists = ["FATES", "BATCH", "BATCH_FATES", "RANGES"];
+    let lists = ["FATES", "BATCH", "BATCH_FATES", "RANGES", "LUMP"];
     for name in ["PLACES", "TRACKS", "SIZE"].iter().chain(&lists) {
         let count = number(&header, &format!("GALUMPER_{name}"));
         let row = format!("\n| `GALUMPER_{name}` | `{name}` | {count} | ");

@@ -4,7 +4,7 @@ use std::fs;
 use std::mem::{offset_of, size_of};
 
 use galumper::{
-    Cause, Kind, Mode, Refusal, BATCH, BATCH_FATES, FATES, PLACES, RANGES, SIZE, TRACKS,
+    Cause, Kind, Mode, Refusal, BATCH, BATCH_FATES, FATES, LUMP, PLACES, RANGES, SIZE, TRACKS,
 };
 
 use crate::compiler::{build, folder, include, source, written_watched};
@@ -44,6 +44,7 @@ fn every_number_is_the_bindings() {
         ("GALUMPER_BATCH", BATCH),
         ("GALUMPER_BATCH_FATES", BATCH_FATES),
         ("GALUMPER_RANGES", RANGES),
+        ("GALUMPER_LUMP", LUMP),
         ("GALUMPER_VIDEO", Kind::VIDEO.0.into()),
         ("GALUMPER_AUDIO", Kind::AUDIO.0.into()),
         ("GALUMPER_SEGMENTS", Mode::Segments.number() as usize),
@@ -61,6 +62,7 @@ fn every_number_is_the_bindings() {
         ("GALUMPER_KINDS", refusal(Refusal::Kinds)),
         ("GALUMPER_MALFORMED", refusal(Refusal::Malformed)),
         ("GALUMPER_LENT_SIZE", refusal(Refusal::LentSize)),
+        ("GALUMPER_LARGE_FRAGMENT", refusal(Refusal::LargeFragment)),
         ("GALUMPER_BEFORE_WINDOW", cause(Cause::BEFORE_WINDOW)),
         ("GALUMPER_AFTER_WINDOW", cause(Cause::AFTER_WINDOW)),
         ("GALUMPER_NEEDS_POINT", cause(Cause::NEEDS_POINT)),
@@ -94,6 +96,7 @@ fn every_field_stands_where_the_binding_has_it() {
         line!("range", Range: start end),
         line!("segment_track", SegmentTrack: id track timescale duration size flags),
         line!("listed_frame", ListedFrame: track pts dts duration flagged size),
+        line!("lump_reader", LumpReader: head left kept seen phase fragments),
     ];
     let written = written_watched(&source("layout.c"), &include(), &folder("layout"));
     assert_eq!(written, lines.concat());

@@ -25,5 +25,7 @@ int main(void) {
     AT(segment_track, duration), AT(segment_track, size), AT(segment_track, flags), BYTES(segment_track);
     NAME(listed_frame), AT(listed_frame, track), AT(listed_frame, pts), AT(listed_frame, dts), AT(listed_frame, duration);
     AT(listed_frame, flagged), AT(listed_frame, size), BYTES(listed_frame);
+    NAME(lump_reader), AT(lump_reader, head), AT(lump_reader, left), AT(lump_reader, kept), AT(lump_reader, seen);
+    AT(lump_reader, phase), AT(lump_reader, fragments), BYTES(lump_reader);
     return 0;
 }

@@ -8,6 +8,7 @@ mod flags;
 mod former;
 mod header;
 mod held;
+mod lump;
 mod mismatch;
 mod names;
 mod programs;

@@ -8,26 +8,38 @@ use std::{env, fs};
 use crate::compiler::{folder, include, output, released, repository, watched};
 use crate::document::document;
 
-/// A program: its name, and its runs, each by the segments that it reads and what it writes.
+/// A program: its name, and its runs, each by the segments that it reads, from the folder `rust` on, and
+/// what it writes.
 struct Program {
     name: &'static str,
     runs: &'static [(&'static [&'static str], &'static str)],
 }
 
-const PROGRAMS: [Program; 3] = [
+const PROGRAMS: [Program; 4] = [
     Program {
         name: "console",
         runs: &[(&[], CONSOLE)],
     },
     Program {
         name: "segment",
-        runs: &[(&["dash.m4s"], SEGMENT)],
+        runs: &[(&[DASH], SEGMENT)],
     },
     Program {
         name: "line",
-        runs: &[(&["long.m4s"; 20], LINE), (&["long.m4s"], ONCE)],
+        runs: &[(&[LONG; 20], LINE), (&[LONG], ONCE)],
+    },
+    Program {
+        name: "lumps",
+        runs: &[(&[DASH, LARGE, SMOOTH, LONG], LUMPS)],
     },
 ];
+
+const DASH: &str = "segments/cases/dash.m4s";
+const LONG: &str = "segments/cases/long.m4s";
+const SMOOTH: &str = "segments/cases/smooth.m4s";
+
+/// The start of a movie fragment that has a byte too many for lumps.
+const LARGE: &str = "galumper/tests/embedding/large.m4s";
 
 const CONSOLE: &str = "\
 41960000: the store is full, 225 frames before second 10 go
@@ -58,6 +70,13 @@ const ONCE: &str = "\
 held from 80000 to 3080000
 ";
 
+const LUMPS: &str = "\
+12 frames of 629 bytes
+passed over: a movie fragment is too large for lumps
+passed over: the segment is not well-formed
+75 frames of 2636 bytes
+";
+
 fn example(name: &str) -> PathBuf {
     Path::new(env!("CARGO_MANIFEST_DIR"))
         .join("examples")
@@ -67,10 +86,10 @@ fn example(name: &str) -> PathBuf {
 impl Program {
     /// A built one is run, and writes what it shall.
     fn runs(&self, built: Command) {
-        let cases = repository().join("rust/segments/cases");
+        let rust = repository().join("rust");
         for (segments, writes) in self.runs {
             let mut run = Command::new(built.get_program());
-            run.args(segments.iter().map(|file| cases.join(file)));
+            run.args(segments.iter().map(|file| rust.join(file)));
             assert_eq!(output(&mut run), *writes);
         }
     }

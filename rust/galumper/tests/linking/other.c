@@ -4,7 +4,7 @@
 #include <stdlib.h>
 
 uint32_t galumper_abi(void) {
-    return 7;
+    return 8;
 }
 
 size_t galumper_size(void) {
@@ -30,3 +30,5 @@ ENDS(track_ranges)
 ENDS(common_ranges)
 ENDS(walked)
 ENDS(list_segment)
+ENDS(take_lump)
+ENDS(take_last)

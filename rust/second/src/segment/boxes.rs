@@ -4,16 +4,16 @@ use crate::refusal::Refusal;
 use crate::trace::{Framing, Parent, SegmentBranch, Trace};
 
 /// The type of a box.
-pub(super) type Kind = [u8; 4];
+pub(crate) type Kind = [u8; 4];
 
 /// The bytes of a size and a type.
-const HEADER: u64 = 8;
+pub(crate) const HEADER: u64 = 8;
 
 /// The bytes of a size, a type and a 64-bit size.
-const LARGE_HEADER: u64 = 16;
+pub(crate) const LARGE_HEADER: u64 = 16;
 
 /// A size that announces a 64-bit size after the type.
-const LARGE: u32 = 1;
+pub(crate) const LARGE: u32 = 1;
 
 /// The boxes that fill a parent, one after another.
 pub(super) struct Boxes<'a> {
@@ -72,20 +72,20 @@ fn take<'a>(rest: &mut &'a [u8]) -> Result<(Framing, Kind, &'a [u8]), Framing> {
 }
 
 /// Fields read one after another; nothing where the bytes do not reach.
-pub(super) struct Fields<'a>(pub(super) &'a [u8]);
+pub(crate) struct Fields<'a>(pub(crate) &'a [u8]);
 
 impl<'a> Fields<'a> {
-    fn bytes<const N: usize>(&mut self) -> Option<[u8; N]> {
+    pub(crate) fn bytes<const N: usize>(&mut self) -> Option<[u8; N]> {
         let (bytes, rest) = self.0.split_first_chunk()?;
         self.0 = rest;
         Some(*bytes)
     }
 
-    pub(super) fn u32(&mut self) -> Option<u32> {
+    pub(crate) fn u32(&mut self) -> Option<u32> {
         self.bytes().map(u32::from_be_bytes)
     }
 
-    pub(super) fn u64(&mut self) -> Option<u64> {
+    pub(crate) fn u64(&mut self) -> Option<u64> {
         self.bytes().map(u64::from_be_bytes)
     }
 

@@ -17,14 +17,13 @@ pub(super) struct TrackFragment<'a> {
     pub(super) runs: Vec<Run<'a>>,
 }
 
-/// The fragments of a track in a segment, in file order. The framing of every box in the segment,
-/// in the movie fragment and in each track fragment has been judged then.
+/// The fragments of a track in a movie fragment's body, in file order. The framing of every box in
+/// the movie fragment and in each track fragment has been judged then.
 pub(super) fn track_fragments<'a, T: Trace>(
     of: SegmentTrack,
-    segment: &'a [u8],
+    movie_fragment: &'a [u8],
     trace: &mut T,
 ) -> Result<Vec<TrackFragment<'a>>, Refusal> {
-    let movie_fragment = movie_fragment(segment, trace)?;
     let mut fragments = Vec::new();
     let mut boxes = Boxes::of(movie_fragment, Parent::MovieFragment);
     while let Some((kind, body)) = boxes.next(trace)? {
@@ -36,8 +35,12 @@ pub(super) fn track_fragments<'a, T: Trace>(
     Ok(fragments)
 }
 
-/// The body of the movie fragment, of which a segment has exactly one.
-fn movie_fragment<'a, T: Trace>(segment: &'a [u8], trace: &mut T) -> Result<&'a [u8], Refusal> {
+/// The body of the movie fragment, of which a segment has exactly one. The framing of every box in
+/// the segment has been judged then.
+pub(super) fn movie_fragment<'a, T: Trace>(
+    segment: &'a [u8],
+    trace: &mut T,
+) -> Result<&'a [u8], Refusal> {
     let mut found = None;
     let mut boxes = Boxes::of(segment, Parent::Segment);
     while let Some((kind, body)) = boxes.next(trace)? {

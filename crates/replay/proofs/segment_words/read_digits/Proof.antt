@@ -3,8 +3,8 @@ use mathlib.Core.Path.{_≡_}
 use Prim.Native.Nat.{_-_, _≤_}
 use lib.ListN.{length}
 use borrow.Author.Needs.{needs}
-use Rattle.replay.proofs.segment.read_digits.Statement.{statement}
-use Rattle.replay.proofs.segment.read_digits.Tie as tie
+use Rattle.replay.proofs.segment_words.read_digits.Statement.{statement}
+use Rattle.replay.proofs.segment_words.read_digits.Tie as tie
 
 abbrev Inv-loop : tie.InvT-loop
 Inv-loop w bytes₀ n k₀ bytes k = (k ≤ n) × (length bytes ≡ length bytes₀)

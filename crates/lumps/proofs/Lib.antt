@@ -1,0 +1,13 @@
+pub mod ByteLaws
+pub mod CutLaws
+pub mod WholeLaws
+pub mod StretchLaws
+pub mod ReaderLaws
+pub mod ScanLaws
+pub mod HeaderLaws
+pub mod LumpLaws
+pub mod CopyLaws
+pub mod FairLaws
+pub mod Cited
+pub mod ReachedLaws
+pub mod Soundings
