@@ -6,9 +6,9 @@
  *
  * Any bits may be handed in. A buffer or a lump reader that is not well-formed has the call refused 1; an offered frame whose flag
  * is neither 0 nor 1 has it refused 4; a segment that is not well-formed has it refused 12. What the caller owes is that each list, each
- * segment, each lump and each lump buffer has the places that its length says, that a list lies outside the buffer, the segment and any
- * other list, that lump, lump buffer and list lie outside each other, and that nothing else touches what is lent during the call. What has
- * length 0 may be a null pointer.
+ * segment, each lump, each lump buffer and all initialization bytes have the places that their length says, that a list lies outside
+ * the buffer, the segment and any other list, that lump, lump buffer and list lie outside each other, and that nothing else touches what
+ * is lent during the call. What has length 0 may be a null pointer.
  *
  * The library has no state of its own: different buffers may be used by different threads at once; one buffer is changed by one
  * thread at a time, and calls that take it as const may run side by side.
@@ -28,10 +28,10 @@ extern "C" {
 #endif
 
 /* The version of this header, of its library and of the Rust crate. */
-#define GALUMPER_VERSION "0.7.0"
+#define GALUMPER_VERSION "0.8.0"
 
 /* By these two a library belongs to this header: the number of its layout and functions, and the bytes of a galumper_buffer. */
-#define GALUMPER_ABI 7
+#define GALUMPER_ABI 8
 #define GALUMPER_SIZE 37064
 
 /* The places of the store over all tracks. */
@@ -87,6 +87,7 @@ enum galumper_refusal {
     GALUMPER_LENT_SIZE = 13,      /* what is lent has a size that the call does not take: a batch of more than 64 frames, a lump of more than
                                    * 65,536 bytes, or a lump buffer of fewer */
     GALUMPER_LARGE_FRAGMENT = 14, /* a movie fragment box of more than 65,536 bytes in a segment that comes in lumps */
+    GALUMPER_NO_START = 15,       /* no frame of the track covers the instant, or no random access point leads to the one that does */
     /* This header's own answer to a creation, and none of the library's: header and library do not belong together. */
     GALUMPER_OTHER_LAYOUT = 255
 };
@@ -229,6 +230,21 @@ typedef struct galumper_batch {
     size_t count;
 } galumper_batch;
 
+/* What a seek answers: an enum galumper_refusal, the number of the frame that the track shows at the instant, the number of the random
+ * access point from which it is decoded, and how many frames that takes, both of these counted. After a refusal the three are 0. */
+typedef struct galumper_start {
+    uint32_t refusal;
+    uint32_t target;
+    uint32_t flagged;
+    size_t count;
+} galumper_start;
+
+/* Bytes to feed a decoder: they stand in what was lent. */
+typedef struct galumper_bytes {
+    const uint8_t *bytes;
+    size_t length;
+} galumper_bytes;
+
 /* What reading the settings answers. `end` is 0.0 where `bounded` is 0. */
 typedef struct galumper_reading {
     uint32_t refusal;
@@ -254,6 +270,12 @@ typedef struct galumper_lumped {
     galumper_lump_reader reader;
     galumper_answer answer;
 } galumper_lumped;
+
+/* Where such bytes start in the initialization bytes or the segment, and how many they are. */
+typedef struct galumper_part {
+    size_t start;
+    size_t length;
+} galumper_part;
 
 uint32_t galumper_abi(void);
 size_t galumper_size(void);
@@ -287,6 +309,10 @@ galumper_answer galumper_lent_common_ranges(galumper_head head, const int64_t ti
                                             const uint32_t tags[GALUMPER_PLACES][5], galumper_range *ranges, size_t places);
 galumper_answer galumper_lent_walked(galumper_head head, const int64_t times[GALUMPER_PLACES][2],
                                      const uint32_t tags[GALUMPER_PLACES][5], uint32_t track, size_t places);
+galumper_start galumper_lent_seek(galumper_head head, const int64_t times[GALUMPER_PLACES][2],
+                                  const uint32_t tags[GALUMPER_PLACES][5], uint32_t track, int64_t instant);
+galumper_part galumper_lent_feed(const uint8_t *initialization, size_t initialization_length, const uint8_t *segment,
+                                 size_t segment_length, uint32_t whole, size_t start, size_t end);
 galumper_answer galumper_lent_list_segment(galumper_segment_track of, const uint8_t *segment, size_t length,
                                            galumper_listed_frame *frames, size_t places);
 galumper_lumped galumper_lent_take_lump(galumper_lump_reader reader, uint8_t *buffer, size_t size, const uint8_t *lump, size_t length);
@@ -314,6 +340,9 @@ GALUMPER_LAID_OUT(sizeof(galumper_answer) == 16 && offsetof(galumper_answer, cou
 GALUMPER_LAID_OUT(sizeof(galumper_answered) == 216);
 GALUMPER_LAID_OUT(sizeof(galumper_batch) == 24 && offsetof(galumper_batch, stop) == 4 && offsetof(galumper_batch, accepted) == 8);
 GALUMPER_LAID_OUT(sizeof(galumper_batched) == 224);
+GALUMPER_LAID_OUT(sizeof(galumper_start) == 24 && offsetof(galumper_start, target) == 4 && offsetof(galumper_start, flagged) == 8);
+GALUMPER_LAID_OUT(offsetof(galumper_start, count) == 16);
+GALUMPER_LAID_OUT(sizeof(galumper_part) == 16 && offsetof(galumper_part, length) == 8);
 GALUMPER_LAID_OUT(sizeof(galumper_lump_reader) == 48 && offsetof(galumper_lump_reader, left) == 16);
 GALUMPER_LAID_OUT(offsetof(galumper_lump_reader, kept) == 24 && offsetof(galumper_lump_reader, phase) == 40);
 GALUMPER_LAID_OUT(sizeof(galumper_lumped) == 64);
@@ -330,8 +359,8 @@ static inline galumper_answer galumper_kept(galumper_buffer *buffer, galumper_an
 
 /* ---- the calls */
 
-/* Whether the library that is linked belongs to this header. A creation asks it too; a program that loads buffers, or lists a segment or
- * takes a lump before it creates one, asks it first. */
+/* Whether the library that is linked belongs to this header. A creation asks it too; a program that loads buffers, or lists a segment,
+ * takes a lump or feeds a decoder before it creates one, asks it first. */
 static inline bool galumper_matches(void) {
     return galumper_abi() == GALUMPER_ABI && galumper_size() == GALUMPER_SIZE;
 }
@@ -444,6 +473,31 @@ static inline galumper_answer galumper_walked(const galumper_buffer *buffer, uin
     return galumper_lent_walked(buffer->head, buffer->times, buffer->tags, track, places);
 }
 
+/* Where to start decoding, so that a track shows what it has at an instant in microseconds, which may be any. The target is the frame of
+ * the track that covers the instant; of several the one with the greatest presentation timestamp, then with the greatest number. It is
+ * decoded from the nearest random access point of its group and track at or before it in store order, which may be itself. The frames to
+ * decode are those of its group in the rows of the buffer from the one to the other: `count` of them, never more than the track has stored.
+ * On a buffer that only these calls made, 15 says that no frame of the track covers the instant; on any other it may also say that the
+ * target has no such random access point. Refused 1, 3, 15. */
+static inline galumper_start galumper_seek(const galumper_buffer *buffer, uint32_t track, int64_t instant) {
+    return galumper_lent_seek(buffer->head, buffer->times, buffer->tags, track, instant);
+}
+
+/* What to feed a decoder: where `whole`, the initialization bytes, all of them; else the part of the segment from `start` up to `end`,
+ * which is outside. Nothing is copied: the bytes stand in what was lent, and stay good as long as that does. A place that overruns the
+ * segment, or starts above its end, gives the empty part at the segment's start, and never the rest that is there. Never refused. */
+static inline galumper_bytes galumper_feed(const uint8_t *initialization, size_t initialization_length, const uint8_t *segment,
+                                           size_t segment_length, bool whole, size_t start, size_t end) {
+    const uint8_t empty = 0;
+    const galumper_part part = galumper_lent_feed(initialization_length ? initialization : &empty, initialization_length,
+                                                  segment_length ? segment : &empty, segment_length, whole, start, end);
+    galumper_bytes fed = {whole ? initialization : segment, part.length};
+    if (part.start > 0) { /* which nothing null has */
+        fed.bytes += part.start;
+    }
+    return fed;
+}
+
 /* Lists a track's frames with their sizes, in file order, from the one movie fragment of a segment, fragmented MP4 by ISO/IEC 14496-12;
  * a segment that has none of this track lists nothing. A media time is converted to microseconds and rounded down, also below zero; a
  * frame's end is converted the same way, and its duration is the difference. Refused 12, 4, 10. */
@@ -509,6 +563,7 @@ static inline const char *galumper_refusal_name(uint32_t refusal) {
     case GALUMPER_MALFORMED: return "the segment is not well-formed";
     case GALUMPER_LENT_SIZE: return "what is lent has a size that the call does not take";
     case GALUMPER_LARGE_FRAGMENT: return "a movie fragment is too large for lumps";
+    case GALUMPER_NO_START: return "nowhere to start decoding";
     case GALUMPER_OTHER_LAYOUT: return "header and library do not belong together";
     default: return "unknown refusal";
     }

@@ -20,7 +20,7 @@ use Rattle.buffer_state.specs.Buffer.{Buffer}
 use Rattle.buffer_state.specs.Lent.{Lent, lentOf, bufferIn, wellFormedAt}
 use Rattle.buffer_state.specs.Limits.{places}
 use Rattle.buffer_state.specs.Refusals.{Result, refused, done}
-use Rattle.buffer_state.specs.Run.{Call, batchCall, Answer, ok, fates, settings, ranges, accepted, taken, Reply, byOutcome, byBatch, replyTo, Entry, run, lastOf, linesIn, handedOut, acceptedIn}
+use Rattle.buffer_state.specs.Run.{Call, batchCall, Answer, ok, fates, settings, ranges, accepted, taken, decoding, Reply, byOutcome, byBatch, replyTo, Entry, run, lastOf, linesIn, handedOut, acceptedIn}
 use Rattle.buffer_state.specs.Store.{Line}
 use Rattle.buffer_state.specs.WellFormed.{allOf}
 use Rattle.buffer_laws.proofs.BatchLaws.{each-good, notRefused, StoppedBy, singly, batch-is-appends, AreAppends, append-alike, appends-alike}
@@ -73,6 +73,7 @@ stopOf (done (settings r)) = Nothing
 stopOf (done (ranges rs)) = Nothing
 stopOf (done (accepted n stop ls)) = stop
 stopOf (done (taken n)) = Nothing
+stopOf (done (decoding s)) = Nothing
 
 abbrev pub results : List Made → List (Result Answer)
 results ms = map (λ (x : Entry). x .result) (entries ms)

@@ -19,7 +19,7 @@ use Rattle.buffer_state.specs.declared.Changed.{Changed}
 use Rattle.buffer_state.specs.declared.Head.{Head}
 use Rattle.buffer_state.specs.declared.Mode.{Mode}
 use Rattle.buffer_state.specs.declared.Offered.{Offered}
-use Rattle.buffer_state.specs.Answers.{changed, zeroHead, createAnswer, timesCreated, tagsCreated, abortAnswer, modeAnswer, offsetAnswer, windowStartAnswer, windowEndAnswer, settingsAnswer, counted, timesAfter, tagsAfter, listAfter, appendResult, removeResult, batched, outcomeOf, batchResult, rangeCount, rangesAfter, trackRangesResult, commonRangesResult, takenCount, walkedResult}
+use Rattle.buffer_state.specs.Answers.{changed, zeroHead, createAnswer, timesCreated, tagsCreated, abortAnswer, modeAnswer, offsetAnswer, windowStartAnswer, windowEndAnswer, settingsAnswer, counted, timesAfter, tagsAfter, listAfter, appendResult, removeResult, batched, outcomeOf, batchResult, rangeCount, rangesAfter, trackRangesResult, commonRangesResult, takenCount, walkedResult, sought, seekResult}
 use Rattle.buffer_state.specs.Batch.{offeredIn}
 use Rattle.buffer_state.specs.Buffer.{Buffer, fresh}
 use Rattle.buffer_state.specs.Lent.{Lent, lentOf, bufferIn}
@@ -31,13 +31,15 @@ use Rattle.buffer_state.specs.WellFormed.{allOf, goodBuffer}
 use Rattle.buffer_laws.proofs.AccountLaws.{found-once, tracks-balance}
 use Rattle.buffer_laws.proofs.GoodLaws.{Good, good-facts, facts-good}
 use Rattle.buffer_laws.proofs.GroupLaws.{own-group-spared}
+use Rattle.buffer_laws.proofs.LedLaws.{run-led}
 use Rattle.buffer_laws.proofs.LentLaws.{held-back}
 use Rattle.buffer_laws.proofs.RunLaws.{reply-lawful, run-lawful}
 use Rattle.buffer_laws.proofs.SettingLaws.{created-good}
 use Rattle.buffer_laws.proofs.TestLaws.{all-none}
-use Rattle.account.specs.Made.{Given, append, remove, abort, setMode, setOffset, setWindowStart, setWindowEnd, readSettings, trackRanges, commonRanges, batch, walked, asked, Back, Made, calls, entries, AllKept}
-use Rattle.account.specs.History.{From, none, by-append, by-remove, by-abort, by-mode, by-offset, by-window-start, by-window-end, by-reading, by-track-ranges, by-common-ranges, by-batch, by-walk, History, from, Account, Claim, Happens}
-use Rattle.account.proofs.StepLaws.{Agrees, append-agrees, remove-agrees, abort-agrees, mode-agrees, offset-agrees, window-start-agrees, window-end-agrees, reading-agrees, track-ranges-agrees, common-ranges-agrees, batch-agrees, walked-agrees}
+use Rattle.seek.proofs.CallLaws.{seek-within}
+use Rattle.account.specs.Made.{Given, append, remove, abort, setMode, setOffset, setWindowStart, setWindowEnd, readSettings, trackRanges, commonRanges, batch, walked, seek, asked, Back, Made, calls, entries, AllKept}
+use Rattle.account.specs.History.{From, none, by-append, by-remove, by-abort, by-mode, by-offset, by-window-start, by-window-end, by-reading, by-track-ranges, by-common-ranges, by-batch, by-walk, by-seek, History, from, Account, Claim, Happens}
+use Rattle.account.proofs.StepLaws.{Agrees, append-agrees, remove-agrees, abort-agrees, mode-agrees, offset-agrees, window-start-agrees, window-end-agrees, reading-agrees, track-ranges-agrees, common-ranges-agrees, batch-agrees, walked-agrees, seek-agrees}
 use Rattle.settings.proofs.create.Reads as Create
 use Rattle.settings.proofs.abort.Reads as Abort
 use Rattle.settings.proofs.set_mode.Reads as SetMode
@@ -51,6 +53,7 @@ use Rattle.remove.proofs.remove.Reads as Remove
 use Rattle.ranges.proofs.track_ranges.Reads as TrackRanges
 use Rattle.ranges.proofs.common_ranges.Reads as CommonRanges
 use Rattle.ranges.proofs.walked.Reads as Walked
+use Rattle.seek.proofs.seek.Reads as Seek
 use Rattle.settings.proofs.create.Statement as CreateSays
 use Rattle.settings.proofs.abort.Statement as AbortSays
 use Rattle.settings.proofs.set_mode.Statement as SetModeSays
@@ -64,6 +67,7 @@ use Rattle.remove.proofs.remove.Statement as RemoveSays
 use Rattle.ranges.proofs.track_ranges.Statement as TrackRangesSays
 use Rattle.ranges.proofs.common_ranges.Statement as CommonRangesSays
 use Rattle.ranges.proofs.walked.Statement as WalkedSays
+use Rattle.seek.proofs.seek.Statement as SeekSays
 use Rattle.settings.proofs.create.Met as CreateMet
 use Rattle.settings.proofs.abort.Met as AbortMet
 use Rattle.settings.proofs.set_mode.Met as SetModeMet
@@ -77,6 +81,7 @@ use Rattle.remove.proofs.remove.Met as RemoveMet
 use Rattle.ranges.proofs.track_ranges.Met as TrackRangesMet
 use Rattle.ranges.proofs.common_ranges.Met as CommonRangesMet
 use Rattle.ranges.proofs.walked.Met as WalkedMet
+use Rattle.seek.proofs.seek.Met as SeekMet
 
 -- ---- every history is the plain run
 
@@ -119,6 +124,7 @@ plain (by-track-ranges track times tags lent r after κs h k) b good e = more go
 plain (by-common-ranges times tags lent r after κs h k) b good e = more good (common-ranges-agrees b good _ e (now lent) after r h) (λ c g d. plain k c g d)
 plain (by-batch rows times tags lent r ts gs after κs h k) b good e = more good (batch-agrees b good _ e (now rows) (now lent) r ts gs after h) (λ c g d. plain k c g d)
 plain (by-walk track room times tags r κs h k) b good e = more good (walked-agrees b good _ e track room r h) (λ c g d. plain k c g d)
+plain (by-seek track t times tags r κs h k) b good e = more good (seek-agrees b good _ e track t r (h .0)) (λ c g d. plain k c g d)
 
 -- ---- a creation that was not refused
 
@@ -178,6 +184,7 @@ module _ (kinds : List ℕ) (made : create kinds ≡ done (fresh kinds)) (ms : L
     account = rw (p .results, p .state) (run-accounts kinds made (calls ms));
     kept = p .kept;
     spared = λ n fs. own-group-spared kinds made (calls (take n ms)) fs;
+    led = λ n. run-led kinds made (calls (take n ms));
   }
 
 pub every-history : {kinds : List ℕ} {ms : List Made} {t : Lent} → History kinds ms t → Claim kinds ms t
@@ -267,6 +274,9 @@ onward s (batch rows d ∷ gs) =
 onward s (walked track room ∷ gs) =
     let r = takenCount (walkedResult room track (s .head) (s .times) (s .tags)) in
     first {u = s} (λ ms t k. by-walk track room (lend (s .times)) (lend (s .tags)) r two refl k) (onward s gs)
+onward s (seek track t ∷ gs) =
+    let r = sought (seekResult track t (s .head) (s .times) (s .tags)) in
+    first {u = s} (λ ms u k. by-seek track t (lend (s .times)) (lend (s .tags)) r two (refl, seek-within track t (s .head) (s .times) (s .tags)) k) (onward s gs)
 
 -- whatever the arrays held before the creation
 pub some-history : (kinds : List ℕ) (ts : List (List ℤ)) (fs : List (List ℕ)) (gs : List Given) → create kinds ≡ done (fresh kinds) → Happens kinds gs
@@ -285,7 +295,7 @@ some-history kinds ts fs gs made =
 -- ---- it has no hidden door
 
 -- no call asks anything of its caller
-pub free : (κs : Lfts 2) (λs : Lfts 3) (μs : Lfts 4) (h : Head) (f : Offered) (m : Mode) (x y : Float) (track room : ℕ) (kinds : RefT (List ℕ))
+pub free : (κs : Lfts 2) (λs : Lfts 3) (μs : Lfts 4) (h : Head) (f : Offered) (m : Mode) (x y : Float) (track room : ℕ) (t : ℤ) (kinds : RefT (List ℕ))
     (times : RefT (List (List ℤ))) (tags : RefT (List (List ℕ))) (fates : RefT (List (List ℕ))) (list rows : RefT (List (List ℤ)))
     → Create.Asked λs (kinds, (times, (tags, tt))) × Append.Asked λs (h, (f, (times, (tags, (fates, tt)))))
     × Remove.Asked λs (h, (x, (y, (times, (tags, (fates, tt)))))) × Abort.Asked κs (h, (times, (tags, tt)))
@@ -293,13 +303,13 @@ pub free : (κs : Lfts 2) (λs : Lfts 3) (μs : Lfts 4) (h : Head) (f : Offered)
     × SetWindowStart.Asked κs (h, (times, (tags, (x, tt)))) × SetWindowEnd.Asked κs (h, (times, (tags, (x, tt))))
     × ReadSettings.Asked κs (h, (times, (tags, tt))) × TrackRanges.Asked λs (h, (times, (tags, (track, (list, tt)))))
     × CommonRanges.Asked λs (h, (times, (tags, (list, tt)))) × Batch.Asked μs (h, (rows, (times, (tags, (fates, tt)))))
-    × Walked.Asked κs (h, (times, (tags, (track, (room, tt)))))
-free κs λs μs h f m x y track room kinds times tags fates list rows = (tt, tt, tt, tt, tt, tt, tt, tt, tt, tt, tt, tt, tt)
+    × Walked.Asked κs (h, (times, (tags, (track, (room, tt))))) × Seek.Asked κs (h, (times, (tags, (track, (t, tt)))))
+free κs λs μs h f m x y track room t kinds times tags fates list rows = (tt, tt, tt, tt, tt, tt, tt, tt, tt, tt, tt, tt, tt, tt)
 
 -- the running code meets the contracts of which a history is made
 pub code-meets : {M : Type 1}
     → CreateSays.statement M × AppendSays.statement M × RemoveSays.statement M × AbortSays.statement M
     × SetModeSays.statement M × SetOffsetSays.statement M × SetWindowStartSays.statement M × SetWindowEndSays.statement M
     × ReadSettingsSays.statement M × TrackRangesSays.statement M × CommonRangesSays.statement M
-    × BatchSays.statement M × WalkedSays.statement M
-code-meets = (CreateMet.met, AppendMet.met, RemoveMet.met, AbortMet.met, SetModeMet.met, SetOffsetMet.met, SetWindowStartMet.met, SetWindowEndMet.met, ReadSettingsMet.met, TrackRangesMet.met, CommonRangesMet.met, BatchMet.met, WalkedMet.met)
+    × BatchSays.statement M × WalkedSays.statement M × SeekSays.statement M
+code-meets = (CreateMet.met, AppendMet.met, RemoveMet.met, AbortMet.met, SetModeMet.met, SetOffsetMet.met, SetWindowStartMet.met, SetWindowEndMet.met, ReadSettingsMet.met, TrackRangesMet.met, CommonRangesMet.met, BatchMet.met, WalkedMet.met, SeekMet.met)

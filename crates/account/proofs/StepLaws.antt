@@ -14,9 +14,10 @@ use Rattle.buffer_state.specs.declared.Counted.{Counted}
 use Rattle.buffer_state.specs.declared.Mode.{Mode}
 use Rattle.buffer_state.specs.declared.Offered.{Offered}
 use Rattle.buffer_state.specs.declared.Read.{Read}
+use Rattle.buffer_state.specs.declared.Sought.{Sought}
 use Rattle.buffer_state.specs.declared.WindowEnd.{WindowEnd}
 use Rattle.buffer_state.specs.declared.WindowEnd.the-variants.{Unbounded, At}
-use Rattle.buffer_state.specs.Answers.{changed, abortAnswer, modeAnswer, offsetAnswer, windowStartAnswer, windowEndAnswer, readWith, read, settingsAnswer, counted, timesAfter, tagsAfter, listAfter, appendResult, removeResult, batched, outcomeOf, batchResult, rangeCount, rangesAfter, trackRangesResult, commonRangesResult, takenCount, walkedResult}
+use Rattle.buffer_state.specs.Answers.{changed, abortAnswer, modeAnswer, offsetAnswer, windowStartAnswer, windowEndAnswer, readWith, read, settingsAnswer, counted, timesAfter, tagsAfter, listAfter, appendResult, removeResult, batched, outcomeOf, batchResult, rangeCount, rangesAfter, trackRangesResult, commonRangesResult, takenCount, walkedResult, sought, seekResult}
 use Rattle.buffer_state.specs.Append as Append
 use Rattle.buffer_state.specs.Append.{Outcome}
 use Rattle.buffer_state.specs.Batch as Batch
@@ -27,7 +28,9 @@ use Rattle.buffer_state.specs.Ranges as Ranges
 use Rattle.buffer_state.specs.Ranges.{Range}
 use Rattle.buffer_state.specs.Refusals.{Result, refused, done}
 use Rattle.buffer_state.specs.Remove as Remove
-use Rattle.buffer_state.specs.Run.{fates, settings, ranges, accepted, byOutcome, bySetting, byRanges, byBatch, byWalked, replyTo}
+use Rattle.buffer_state.specs.Run.{Answer, fates, settings, ranges, accepted, Reply, byOutcome, bySetting, byRanges, byBatch, byWalked, bySeek, replyTo}
+use Rattle.buffer_state.specs.Seek as Seek
+use Rattle.buffer_state.specs.Seek.{Start}
 use Rattle.buffer_state.specs.Settings as Settings
 use Rattle.buffer_state.specs.Settings.{modeSet, offsetSet, windowStartSet, windowEndSet, reading}
 use Rattle.buffer_state.specs.Store.{Line}
@@ -38,7 +41,7 @@ use Rattle.buffer_laws.proofs.LentLaws.{on-laid-out}
 use Rattle.buffer_laws.proofs.SettingLaws as Setting
 use Rattle.buffer_laws.proofs.SettingLaws.{IfDone, abort-set, mode-good, mode-untouched, offset-set, window-start-set, window-end-set}
 use Rattle.ranges.specs.Bars.{Reported}
-use Rattle.account.specs.Made.{Given, append, remove, abort, setMode, setOffset, setWindowStart, setWindowEnd, readSettings, trackRanges, commonRanges, batch, walked, asked, Back, lineOf, rangeOf, linesOf, joinedOf, rangesOf, changeOf, readingOf, walkedOf, resultOf, writtenLines, KeptPast, Kept, KeptBy}
+use Rattle.account.specs.Made.{Given, append, remove, abort, setMode, setOffset, setWindowStart, setWindowEnd, readSettings, trackRanges, commonRanges, batch, walked, seek, asked, Back, lineOf, rangeOf, linesOf, joinedOf, rangesOf, changeOf, readingOf, walkedOf, soughtOf, resultOf, writtenLines, KeptPast, Kept, KeptBy}
 
 -- a call made on a state agrees with the run's reply: its result, the state that it leaves, what stays of a lent list
 pub record Agrees (b : Buffer) (g : Given) (back : Back g) (s : Lent) : Type 0 where
@@ -120,14 +123,18 @@ spanned b (done rs) lent =
       kept = stays place rangeOf (λ x. refl) rs rest;
     }
 
--- a walk
-record Walk (b : Buffer) (x : Result ℕ) (r : Count) : Type 0 where
-  pub result : walkedOf r ≡ byWalked b x .result
-  pub state : lentOf b ≡ lentOf (byWalked b x .after)
+-- a walk and a seek, which leave the buffer
+record Told (b : Buffer) (r : Result Answer) (x : Reply) : Type 0 where
+  pub result : r ≡ x .result
+  pub state : lentOf b ≡ lentOf (x .after)
 
-walk : (b : Buffer) (x : Result ℕ) → Walk b x (takenCount x)
+walk : (b : Buffer) (x : Result ℕ) → Told b (walkedOf (takenCount x)) (byWalked b x)
 walk b (refused why) = record { result = refl; state = refl }
 walk b (done n) = record { result = refl; state = refl }
+
+seeks : (b : Buffer) (x : Result Start) → Told b (soughtOf (sought x)) (bySeek b x)
+seeks b (refused why) = record { result = refl; state = refl }
+seeks b (done s) = record { result = refl; state = refl }
 
 -- abort and the setters, which touch no frame
 record Set (b : Buffer) (x : Result Buffer) (r : Changed) : Type 0 where
@@ -279,3 +286,11 @@ module _ (b : Buffer) (good : goodBuffer b ≡ true) (s : Lent) (here : s ≡ le
       let e : r ≡ takenCount (call b) = h ∙ ap takenCount (on-buffer call) in
       let o = walk b (call b) in
       record { result = ap walkedOf e ∙ o .result; state = here ∙ o .state; kept = tt }
+
+  pub seek-agrees : (track : ℕ) (t : ℤ) (r : Sought) → r ≡ sought (seekResult track t (s .head) (s .times) (s .tags)) → Agrees b (seek track t) r s
+  unfolding seekResult replyTo
+  seek-agrees track t r h =
+      let call = Seek.seek track t in
+      let e : r ≡ sought (call b) = h ∙ ap sought (on-buffer call) in
+      let o = seeks b (call b) in
+      record { result = ap soughtOf e ∙ o .result; state = here ∙ o .state; kept = tt }

@@ -18,13 +18,15 @@ use Rattle.buffer_state.specs.declared.Counted.{Counted}
 use Rattle.buffer_state.specs.declared.Mode.{Mode}
 use Rattle.buffer_state.specs.declared.Offered.{Offered}
 use Rattle.buffer_state.specs.declared.Read.{Read}
+use Rattle.buffer_state.specs.declared.Sought.{Sought}
 use Rattle.buffer_state.specs.Batch.{appendEach}
 use Rattle.buffer_state.specs.Buffer.{fresh}
 use Rattle.buffer_state.specs.Groups.{SparesGroup}
 use Rattle.buffer_state.specs.Lent.{Lent, lentOf, bufferIn}
 use Rattle.buffer_state.specs.Run.{Entry, run, lastOf, offers, foundStored, foundTold, offeredOn, storedOn, droppedOn, removedOn, onOffered}
+use Rattle.buffer_state.specs.Seek.{led}
 use Rattle.buffer_state.specs.WellFormed.{allOf}
-use Rattle.account.specs.Made.{Given, append, remove, abort, setMode, setOffset, setWindowStart, setWindowEnd, readSettings, trackRanges, commonRanges, batch, walked, Made, calls, entries, AllKept}
+use Rattle.account.specs.Made.{Given, append, remove, abort, setMode, setOffset, setWindowStart, setWindowEnd, readSettings, trackRanges, commonRanges, batch, walked, seek, Made, calls, entries, AllKept}
 use Rattle.settings.proofs.create.Reads as Create
 use Rattle.settings.proofs.abort.Reads as Abort
 use Rattle.settings.proofs.set_mode.Reads as SetMode
@@ -38,6 +40,7 @@ use Rattle.remove.proofs.remove.Reads as Remove
 use Rattle.ranges.proofs.track_ranges.Reads as TrackRanges
 use Rattle.ranges.proofs.common_ranges.Reads as CommonRanges
 use Rattle.ranges.proofs.walked.Reads as Walked
+use Rattle.seek.proofs.seek.Reads as Seek
 
 -- From one state to another by calls, each handed the head last given and lent the arrays as the last call left them; a call that only
 -- reads leaves all of it. A reference may be any: of those to the arrays, what is behind them is the state's.
@@ -102,6 +105,11 @@ pub data From : Lent → List Made → Lent → Type 0 where
       (s .head, (at-last times (s .times), (at-last tags (s .tags), (track, (room, tt)))))
       → From s ms t
       → From s (record { given = walked track room; back = r } ∷ ms) t
+  by-seek : {s u : Lent} {ms : List Made} (track : ℕ) (t : ℤ) (times : RefT (List (List ℤ))) (tags : RefT (List (List ℕ))) (r : Sought) (κs : Lfts 2)
+      → Seek.Learnt κs (s .head, (at-last times (s .times), (at-last tags (s .tags), (track, (t, tt))))) r
+      (s .head, (at-last times (s .times), (at-last tags (s .tags), (track, (t, tt)))))
+      → From s ms u
+      → From s (record { given = seek track t; back = r } ∷ ms) u
 
 -- From a creation that was not refused: the kinds, the calls made, the last state. What the arrays held before it is any.
 pub data History : List ℕ → List Made → Lent → Type 0 where
@@ -126,7 +134,8 @@ pub record Account (es : List Entry) (t : Lent) : Type 0 where
 -- THE CLAIM about a history: kinds, calls made, last state. The plain run is fed the kinds and the calls' arguments alone.
 pub record Claim (kinds : List ℕ) (ms : List Made) (t : Lent) : Type 0 where
   -- every refusal, every fate list with its causes, every range list and every reading is the run's, of every batch how many frames were
-  -- accepted and what stopped it, and of every walk how many frames it took,
+  -- accepted and what stopped it, of every walk how many frames it took, and of every seek its target, its start and how many frames to
+  -- decode,
   pub results : entries ms ≡ run (fresh kinds) (calls ms)
   -- and so is the last state
   pub state : t ≡ lentOf (lastOf (fresh kinds) (calls ms))
@@ -137,6 +146,9 @@ pub record Claim (kinds : List ℕ) (ms : List Made) (t : Lent) : Type 0 where
   pub kept : AllKept ms
   -- after any n calls, and any frames of a batch after them, an append takes out no frame of the group in which its own frame is stored
   pub spared : (n : ℕ) (fs : List Offered) → SparesGroup (appendEach fs (lastOf (fresh kinds) (calls (take n ms))) .outcome .after)
+  -- after any n calls, each stored frame that is not flagged has a stored flagged frame of its group and track before it, so that a seek
+  -- refused 15 says that no frame of the track covers the instant
+  pub led : (n : ℕ) → led (lastOf (fresh kinds) (calls (take n ms)) .frames) ≡ true
 
 -- every list of calls, with lists lent that hold whatever they hold, has a history
 pub record Happens (kinds : List ℕ) (gs : List Given) : Type 0 where

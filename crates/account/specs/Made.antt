@@ -16,16 +16,19 @@ use Rattle.buffer_state.specs.declared.Mode.{Mode}
 use Rattle.buffer_state.specs.declared.Offered.{Offered}
 use Rattle.buffer_state.specs.declared.Read.{Read}
 use Rattle.buffer_state.specs.declared.Read.the-variants as Read
+use Rattle.buffer_state.specs.declared.Sought.{Sought}
+use Rattle.buffer_state.specs.declared.Sought.the-variants as Sought
 use Rattle.buffer_state.specs.declared.WindowEnd.the-variants.{Unbounded, At}
 use Rattle.buffer_state.specs.Batch.{offeredIn}
 use Rattle.buffer_state.specs.Ranges.{Range}
 use Rattle.buffer_state.specs.Refusals.{Result, refused, done}
-use Rattle.buffer_state.specs.Run.{Call, appendCall, removeCall, abortCall, modeCall, offsetCall, windowStartCall, windowEndCall, readCall, rangesCall, commonCall, batchCall, walkedCall, Answer, ok, fates, settings, ranges, accepted, taken, Entry}
+use Rattle.buffer_state.specs.Run.{Call, appendCall, removeCall, abortCall, modeCall, offsetCall, windowStartCall, windowEndCall, readCall, rangesCall, commonCall, batchCall, walkedCall, seekCall, Answer, ok, fates, settings, ranges, accepted, taken, decoding, Entry}
 use Rattle.buffer_state.specs.Store.{Line}
 
 -- ---- a call
 
--- every argument except the state; of a lent list, what it holds; of a walk, the track and how many places it has room for
+-- every argument except the state; of a lent list, what it holds; of a walk, the track and how many places it has room for; of a
+-- seek, the track and the instant
 pub data Given : Type 0 where
   append : Offered → List (List ℕ) → Given
   remove : Float → Float → List (List ℕ) → Given
@@ -39,6 +42,7 @@ pub data Given : Type 0 where
   commonRanges : List (List ℤ) → Given
   batch : List (List ℤ) → List (List ℕ) → Given
   walked : ℕ → ℕ → Given
+  seek : ℕ → ℤ → Given
 
 -- what the plain run is fed of it: the arguments, and how many places a lent list has
 abbrev pub asked : Given → Call
@@ -54,6 +58,7 @@ asked (trackRanges track lent) = rangesCall (length lent) track
 asked (commonRanges lent) = commonCall (length lent)
 asked (batch rows lent) = batchCall (length lent) (map offeredIn rows)
 asked (walked track room) = walkedCall room track
+asked (seek track t) = seekCall track t
 
 -- ---- what it hands back beside the state
 
@@ -80,6 +85,7 @@ Back (trackRanges track lent) = Listed (List ℤ)
 Back (commonRanges lent) = Listed (List ℤ)
 Back (batch rows lent) = Joined
 Back (walked track room) = Count
+Back (seek track t) = Sought
 
 pub record Made : Type 0 where
   pub given : Given
@@ -121,6 +127,10 @@ abbrev pub walkedOf : Count → Result Answer
 walkedOf (Count.Done n) = done (taken n)
 walkedOf (Count.Refused why) = refused why
 
+abbrev pub soughtOf : Sought → Result Answer
+soughtOf (Sought.Found target flagged count) = done (decoding (record { target = target; flagged = flagged; count = count }))
+soughtOf (Sought.Refused why) = refused why
+
 abbrev pub resultOf : (g : Given) → Back g → Result Answer
 resultOf (append f lent) l = linesOf l (l .answer)
 resultOf (remove start end lent) l = linesOf l (l .answer)
@@ -134,6 +144,7 @@ resultOf (trackRanges track lent) l = rangesOf l (l .answer)
 resultOf (commonRanges lent) l = rangesOf l (l .answer)
 resultOf (batch rows lent) l = joinedOf l (l .answer)
 resultOf (walked track room) r = walkedOf r
+resultOf (seek track t) r = soughtOf r
 
 abbrev pub calls : List Made → List Call
 calls = map (λ (m : Made). asked (m .given))
@@ -172,6 +183,7 @@ KeptBy (trackRanges track lent) l = Kept lent l
 KeptBy (commonRanges lent) l = Kept lent l
 KeptBy (batch rows lent) l = KeptPast (writtenLines (l .answer)) lent (l .after)
 KeptBy (walked track room) r = Unit {0}
+KeptBy (seek track t) r = Unit {0}
 
 abbrev pub AllKept : List Made → Type 0
 AllKept [] = Unit {0}

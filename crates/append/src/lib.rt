@@ -4,7 +4,7 @@ ghost use mathlib.Core.Path.{_≡_};
 ghost use mathlib.Core.Bool.{true, _&&_, _||_};
 ghost use Prim.Native.Nat.{_≤_, _<_};
 ghost use lib.ListN.{length, take};
-ghost use lib.Dec.{leb, eqb};
+ghost use lib.Dec.{eqb};
 ghost use lib.Signed.{leZ};
 ghost use Rattle.buffer_state.specs.declared.Frame.{Frame};
 ghost use Rattle.buffer_state.specs.declared.Head.{Head};
@@ -227,12 +227,6 @@ fn is_offerable(f: Offered) -> bool
     offered_time(f.pts) & (offered_time(f.dts) & limits::good_duration(f.duration))
 }
 
-fn has_track(n: u32, tracks: usize) -> bool
-    ensures { λ r. ⌜ r ≡ (leb 1 n && leb n tracks) ⌝ }
-{
-    (1 <= n) & (n as usize <= tracks)
-}
-
 // Whether a frame goes on from where its track stands: nothing of the head changes before step 9, and the frame is stored and overlaps
 // nothing. The frame is that after step 2. Where it says no, nothing is known, and all the steps are taken.
 pub fn follows(h: Head, f: Offered, bound: Bound) -> Steady
@@ -243,7 +237,7 @@ pub fn follows(h: Head, f: Offered, bound: Bound) -> Steady
         ok: false,
         frame: f,
     };
-    if !has_track(f.track, h.ntracks) {
+    if !limits::has_track(f.track, h.ntracks) {
         return no;
     }
     if !is_offerable(f) {
@@ -308,7 +302,7 @@ pub fn append_tested(
     ensures tags { λ r. ⌜ now (tags .exit) ≡ tagsAfter (appendResult places f h (now (times .entry)) (now (tags .entry))) (now (tags .entry)) ⌝ }
     ensures lines { λ r. ⌜ now (fates .exit) ≡ listAfter (appendResult places f h (now (times .entry)) (now (tags .entry))) (now (fates .entry)) ⌝ }
 {
-    if !has_track(f.track, h.ntracks) {
+    if !limits::has_track(f.track, h.ntracks) {
         return buffer_state::refuse(h, Refusal::NoTrack);
     }
     if !is_offerable(f) {

@@ -25,7 +25,7 @@ use Rattle.buffer_state.specs.Store.{kept, Line}
 use Rattle.buffer_state.specs.Run.{total}
 use Rattle.buffer_state.specs.Append.{Outcome, stepOne, stepTwo, Pass, passOf, endOffered, fits, moved, regrouped, breaks, secondPass, lastPass, leavesLimits, lacksGroup, needing, beforeWindow, pastWindow, lacksRandomAccess, dropped, overlapMarks, overlapped, followed, storedAs, nextNumber, raised, stepNine, stored, settled, appended, offerable}
 use Rattle.buffer_state.specs.WellFormed.{allOf, goodTrack, goodOffset, converts, goodStart, goodGroup}
-use Rattle.buffer_laws.proofs.TestLaws.{all-none, all-more, all-getD, all-map}
+use Rattle.buffer_laws.proofs.TestLaws.{all-getD, all-map, map-all}
 use Rattle.buffer_laws.proofs.OrderLaws.{insert-all, insert-total}
 use Rattle.buffer_laws.proofs.StoreLaws.{frameWeight, lineWeight, left-all, left-and-told, told-cause}
 use Rattle.buffer_laws.proofs.GoodLaws.{same-number, need-good, restarted-good, track-good, tracks-map, tracks-set, facts-frame, frames-later, frames-left, frames-more, group-end, group-start, group-number, starting-good, ended-good, Good, next-good}
@@ -164,11 +164,7 @@ Unset b = allOf (λ (t : Track). not (t .known)) (b .tracks) ≡ true
 
 regrouped-unset : (b : Buffer) (z : ℤ) → Unset (regrouped b z)
 unfolding regrouped moved
-regrouped-unset b z = all-map (λ (t : Track). true) (λ (t : Track). not (t .known)) restarted (λ t _. refl) (b .tracks) (every (b .tracks))
-  where
-    every : (ts : List Track) → allOf (λ (t : Track). true) ts ≡ true
-    every [] = all-none (λ (t : Track). true)
-    every (t ∷ ts) = all-more (λ (t : Track). true) t ts refl (every ts)
+regrouped-unset b z = map-all (λ (t : Track). not (t .known)) restarted (λ t. refl) (b .tracks)
 
 step-one-unset : (b : Buffer) (f : Offered) → Unset b → Unset (stepOne b f)
 unfolding stepOne

@@ -1,46 +1,40 @@
 -- Document 02, No. 4: the mend of step 8 works. Over every list of calls from a fresh buffer a track's frames of the current group end at or
 -- before its highest end; so an append takes out no frame of the group in which its own is stored.
 use mathlib.Core.Path.{_≡_, refl, sym, ap, _∙_}
-use mathlib.Core.Bool.{Bool, true, false, cond, not, _&&_, _||_}
+use mathlib.Core.Bool.{Bool, true, false, cond, not, _&&_}
 use mathlib.Core.List.{List, [], _∷_, map}
 use Prim.Native.Nat.{ℕ, zero, suc, _-_, _≤_, _<_}
 use native.Mathlib.Omega.{arith}
-use lib.Dec.{ltb, eqb}
-use lib.IntN.{ℤ, pos}
-use lib.Ieee.{Float}
+use lib.Dec.{eqb}
+use lib.IntN.{ℤ}
 use lib.ListN.{length, getD, set, length-set}
 use lib.Seq.{getD-set-same}
 use lib.Signed.{ltZ, leZ, _≤ℤ_, _<ℤ_}
 use borrow.Author.Tests.{leb-true, eqb-true, ne-eqb, not-false}
 use Rattle.laws.proofs.BoolLaws.{split, by-test, and-left, and-right, and-both, or-cases, or-left, or-right, or-none-left}
 use Rattle.laws.proofs.IntLaws.{test-le, test-lt, le-test, test-ge, gt-test, lt-le, le-le, le-refl, lt-add, weaken}
-use Rattle.seconds.specs.Seconds.{Bound, convertible, convertibleEnd, microsOf, boundOf}
+use Rattle.seconds.specs.Seconds.{Bound}
 use Rattle.buffer_state.specs.declared.Frame.{Frame}
-use Rattle.buffer_state.specs.declared.Mode.{Mode}
-use Rattle.buffer_state.specs.declared.Mode.the-variants.{Segments, Sequence}
 use Rattle.buffer_state.specs.declared.Offered.{Offered}
 use Rattle.buffer_state.specs.declared.Track.{Track}
 use Rattle.buffer_state.specs.Append.{Outcome, Pass, stepOne, passOf, endOffered, fits, moved, regrouped, breaks, secondPass, lastPass, leavesLimits, needing, beforeWindow, pastWindow, lacksRandomAccess, overlapped, overlapMarks, raised, storedAs, nextNumber, followed, stepNine, stored, settled, appended, append}
-use Rattle.buffer_state.specs.Batch.{Batch, appendEach, mostFrames, batchLines, batch}
-use Rattle.buffer_state.specs.Buffer.{Buffer, fresh, zeroTrack, trackOf, endOf, withNeed, isSequence, inLastGroup}
+use Rattle.buffer_state.specs.Batch.{appendEach}
+use Rattle.buffer_state.specs.Buffer.{Buffer, fresh, zeroTrack, trackOf, endOf, withNeed, isSequence}
 use Rattle.buffer_state.specs.Groups.{endedBy, endedOn, currentEnded, untold, sparesGroup, SparesGroup}
-use Rattle.buffer_state.specs.Limits.{goodDuration, places}
-use Rattle.buffer_state.specs.Ranges.{Range, trackRanges, commonRanges}
-use Rattle.buffer_state.specs.Refusals.{Result, refused, done}
-use Rattle.buffer_state.specs.Remove.{beforeBound, removalMarks, endsTrack, afterLoss, removalLacksGroup, removed, remove}
-use Rattle.buffer_state.specs.Run.{Call, appendCall, removeCall, abortCall, modeCall, offsetCall, windowStartCall, windowEndCall, readCall, rangesCall, commonCall, batchCall, walkedCall, byOutcome, bySetting, byRanges, byBatch, byWalked, replyTo, lastOf}
-use Rattle.buffer_state.specs.Settings.{create, aborted, abort, modeSet, offsetSet, windowEnd, windowStartSet, windowEndSet}
+use Rattle.buffer_state.specs.Limits.{goodDuration}
+use Rattle.buffer_state.specs.Refusals.{done}
+use Rattle.buffer_state.specs.Remove.{removalMarks, endsTrack, afterLoss, removed}
+use Rattle.buffer_state.specs.Run.{Call, lastOf}
+use Rattle.buffer_state.specs.Settings.{create, aborted}
 use Rattle.buffer_state.specs.Store.{Marked, kept, Line}
-use Rattle.buffer_state.specs.Walked.{walked}
 use Rattle.buffer_state.specs.WellFormed.{allOf, goodFrame}
 use Rattle.buffer_laws.proofs.AppendLaws.{pass-good, regrouped-number, last-from, last-pass-good, needing-good, Accepted}
-use Rattle.buffer_laws.proofs.BatchLaws.{append-good, each-keeps}
 use Rattle.buffer_laws.proofs.CallLaws.{append-done}
-use Rattle.buffer_laws.proofs.GoodLaws.{frame-facts, Good, good-facts, facts-good}
+use Rattle.buffer_laws.proofs.GoodLaws.{frame-facts, Good}
 use Rattle.buffer_laws.proofs.OrderLaws.{insert-all}
 use Rattle.buffer_laws.proofs.RemoveLaws.{lost-untouched, removed-all}
-use Rattle.buffer_laws.proofs.RunLaws.{reply-lawful}
-use Rattle.buffer_laws.proofs.SettingLaws.{IfDone, if-done, created-good, aborted-number}
+use Rattle.buffer_laws.proofs.ReplyLaws.{Alike, Preserved, GoodWith, batch-kept, run-kept}
+use Rattle.buffer_laws.proofs.SettingLaws.{if-done, created-good, aborted-number}
 use Rattle.buffer_laws.proofs.SpareLaws.{ofGroup, taking-spares}
 use Rattle.buffer_laws.proofs.StoreLaws.{left-all}
 use Rattle.buffer_laws.proofs.TestLaws.{all-none, all-weaker, all-from-both, all-more}
@@ -114,7 +108,7 @@ regrouped-ended : (b : Buffer) (z : ℤ) → Good b → Ended (regrouped b z)
 unfolding regrouped moved currentEnded
 regrouped-ended b z g = none-yet b g (regrouped b z .tracks) (regrouped b z .group .number) (omega (arith, regrouped-number b z))
 
-last-pass-ended : (b : Buffer) (f : Offered) → Good b → leavesLimits b f ≡ false → Ended b → Ended (lastPass b f .buffer)
+pub last-pass-ended : (b : Buffer) (f : Offered) → Good b → leavesLimits b f ≡ false → Ended b → Ended (lastPass b f .buffer)
 unfolding lastPass secondPass leavesLimits
 last-pass-ended b f g l e =
     let p = passOf b f in
@@ -125,7 +119,7 @@ last-pass-ended b f g l e =
 
 -- ---- steps 4 to 9
 
-needing-ended : (on : Bool) (p : Pass) → Ended (p .buffer) → Ended (needing on p)
+pub needing-ended : (on : Bool) (p : Pass) → Ended (p .buffer) → Ended (needing on p)
 unfolding currentEnded
 needing-ended on p e =
     let b = p .buffer in
@@ -176,10 +170,10 @@ settled-ended p from to e =
     (λ _. stored-ended ready from (omega (arith, width)) (needing-ended false p e))))
 
 module _ (b : Buffer) (f : Offered) (a : Accepted b f) where
-  track-from : 1 ≤ lastPass b f .frame .track
+  pub track-from : 1 ≤ lastPass b f .frame .track
   track-from = rw (last-from b f .frame .track) (a .track-from)
 
-  track-to : lastPass b f .frame .track ≤ length (lastPass b f .buffer .tracks)
+  pub track-to : lastPass b f .frame .track ≤ length (lastPass b f .buffer .tracks)
   track-to = rw (last-from b f .frame .track, last-from b f .buffer .width) (a .track-to)
 
   appended-ended : Good b → Ended b → Ended (appended b f .after)
@@ -210,15 +204,20 @@ kept-apart b f g d e =
     rw (same, and-left (t .known) _ own, before) (none (leZ (t .end) (f .pts))))
     (λ other. rw other refl)))
 
+-- so it is for each stored frame
+pub current-apart : (b : Buffer) (f : Offered) → Good b → Ended b
+    → allOf (λ (g : Frame). ofGroup (b .group .number) g (not (overlapped (trackOf b (f .track)) f g))) (b .frames) ≡ true
+unfolding currentEnded
+current-apart b f g e =
+    all-from-both (goodFrame (length (b .tracks)) (b .last) (b .group .number)) (endedOn (b .tracks) (b .group .number)) _
+    (λ x h k. kept-apart b f x (frame-facts (length (b .tracks)) (b .last) (b .group .number) x h .duration) k) (b .frames) (g .frames .each) e
+
 stored-spares : (p : Pass) → Good (p .buffer) → Ended (p .buffer) → sparesGroup (p .buffer) (stored p) ≡ true
-unfolding stored stepNine overlapMarks currentEnded sparesGroup
+unfolding stored stepNine overlapMarks sparesGroup
 stored-spares p g e =
     let b = p .buffer in
     let f = p .frame in
-    let good = goodFrame (length (b .tracks)) (b .last) (b .group .number) in
-    taking-spares (b .group .number) (overlapped (trackOf b (f .track)) f) 4 (b .frames) (g .frames .distinct)
-    (all-from-both good (endedOn (b .tracks) (b .group .number)) _
-    (λ x h k. kept-apart b f x (frame-facts (length (b .tracks)) (b .last) (b .group .number) x h .duration) k) (b .frames) (g .frames .each) e)
+    taking-spares (b .group .number) (overlapped (trackOf b (f .track)) f) 4 (b .frames) (g .frames .distinct) (current-apart b f g e)
 
 -- a dropped frame's number is no stored frame's
 dropped-spares : (b : Buffer) → Good b → (cause group : ℕ)
@@ -257,146 +256,48 @@ spares b g e lent f o d =
 
 -- ---- every call keeps it
 
--- a good buffer whose current group has ended
-pub record Grouped (b : Buffer) : Type 0 where
-  pub good : Good b
-  pub ended : Ended b
-
-append-ended : (lent : ℕ) (f : Offered) (b : Buffer) → Grouped b → (o : Outcome) → append lent f b ≡ done o → Ended (o .after)
-append-ended lent f b g o d =
-    let h = if-done (λ (o : Outcome). Accepted b f × (appended b f ≡ o)) (append lent f b) (append-done lent f b) d in
-    rw (h .1) at (appended-ended b f (h .0) (g .good) (g .ended))
-
-outcome-ended : (b : Buffer) (r : Result Outcome) → Ended b → ((o : Outcome) → r ≡ done o → Ended (o .after)) → Ended (byOutcome b r .after)
-outcome-ended b (refused why) e h = e
-outcome-ended b (done o) e h = h o refl
-
-loss-ended : (ms : List Marked) (b : Buffer) → Grouped b → Ended (afterLoss ms b)
+loss-ended : (ms : List Marked) (b : Buffer) → Good b → Ended b → Ended (afterLoss ms b)
 unfolding afterLoss
-loss-ended [] b g = g .ended
-loss-ended (m ∷ ms) b g = by-test Ended (endsTrack b m) (λ _. regrouped-ended b (m .frame .pts) (g .good)) (λ _. loss-ended ms b g)
+loss-ended [] b g e = e
+loss-ended (m ∷ ms) b g e = by-test Ended (endsTrack b m) (λ _. regrouped-ended b (m .frame .pts) g) (λ _. loss-ended ms b g e)
 
-removed-ended : (s : ℤ) (e : Bound) (b : Buffer) → Grouped b → Ended (removed s e b .after)
+removed-ended : (s : ℤ) (e : Bound) (b : Buffer) → Good b → Ended b → Ended (removed s e b .after)
 unfolding removed currentEnded
-removed-ended s e b g =
+removed-ended s e b g h =
     let marks = removalMarks s e (b .frames) in
     let c = afterLoss marks b in
-    removed-all s e b (endedOn (c .tracks) (c .group .number)) (rw (lost-untouched marks b .frames) at (loss-ended marks b g))
+    removed-all s e b (endedOn (c .tracks) (c .group .number)) (rw (lost-untouched marks b .frames) at (loss-ended marks b g h))
 
-abort-ended : (b : Buffer) → Grouped b → Ended (bySetting b (abort b) .after)
-unfolding abort aborted currentEnded
-abort-ended b g =
-    by-test (λ (r : Result Buffer). Ended (bySetting b r .after)) (inLastGroup b) (λ _. g .ended)
-    (λ _. none-yet b (g .good) (aborted b .tracks) (aborted b .group .number) (omega (arith, aborted-number b)))
-
--- a buffer with the tracks, the frames and the group number of another
-record Alike (b c : Buffer) : Type 0 where
-  tracks : c .tracks ≡ b .tracks
-  frames : c .frames ≡ b .frames
-  number : c .group .number ≡ b .group .number
+aborted-ended : (b : Buffer) → Good b → Ended (aborted b)
+unfolding aborted currentEnded
+aborted-ended b g = none-yet b g (aborted b .tracks) (aborted b .group .number) (omega (arith, aborted-number b))
 
 alike-ended : (b c : Buffer) → Alike b c → Ended b → Ended c
 unfolding currentEnded
 alike-ended b c a e = rw (a .tracks, a .frames, a .number) e
 
-mode-alike : (m : Mode) (b : Buffer) → Alike b (modeSet m b)
-unfolding modeSet
-mode-alike Segments b = record { tracks = refl; frames = refl; number = refl }
-mode-alike Sequence b = record { tracks = refl; frames = refl; number = refl }
-
-offset-alike : (x : Float) (b : Buffer) → IfDone (Alike b) (offsetSet x b)
-unfolding offsetSet
-offset-alike x b =
-    by-test (IfDone (Alike b)) (not (convertible x)) (λ _. tt)
-    (λ _. by-test (Alike b) (isSequence (b .mode)) (λ _. record { tracks = refl; frames = refl; number = refl }) (λ _. record { tracks = refl; frames = refl; number = refl }))
-
-window-start-alike : (x : Float) (b : Buffer) → IfDone (Alike b) (windowStartSet x b)
-unfolding windowStartSet
-window-start-alike x b =
-    by-test (IfDone (Alike b)) (not (convertible x)) (λ _. tt)
-    (λ _. by-test (IfDone (Alike b)) (ltZ (microsOf x) (pos 0) || not (beforeBound (microsOf x) (windowEnd (b .settings)))) (λ _. tt)
-    (λ _. record { tracks = refl; frames = refl; number = refl }))
-
-window-end-alike : (x : Float) (b : Buffer) → IfDone (Alike b) (windowEndSet x b)
-unfolding windowEndSet
-window-end-alike x b =
-    by-test (IfDone (Alike b)) (not (convertibleEnd x)) (λ _. tt)
-    (λ _. by-test (IfDone (Alike b)) (not (beforeBound (b .settings .start .micros) (boundOf x))) (λ _. tt)
-    (λ _. record { tracks = refl; frames = refl; number = refl }))
-
-setting-ended : (b : Buffer) (r : Result Buffer) → IfDone (Alike b) r → Ended b → Ended (bySetting b r .after)
-setting-ended b (refused why) a e = e
-setting-ended b (done c) a e = alike-ended b c a e
-
-remove-ended : (lent : ℕ) (start end : Float) (b : Buffer) → Grouped b → Ended (byOutcome b (remove lent start end b) .after)
-unfolding remove
-remove-ended lent start end b g =
-    let Keeps : Result Outcome → Type 0 = λ r. Ended (byOutcome b r .after) in
-    by-test Keeps (ltb lent places) (λ _. g .ended)
-    (λ _. by-test Keeps (not (convertible start) || not (convertibleEnd end)) (λ _. g .ended)
-    (λ _. by-test Keeps (ltZ (microsOf start) (pos 0) || not (beforeBound (microsOf start) (boundOf end))) (λ _. g .ended)
-    (λ _. by-test Keeps (removalLacksGroup (microsOf start) (boundOf end) b) (λ _. g .ended)
-    (λ _. removed-ended (microsOf start) (boundOf end) b g))))
-
--- one by one, as in a batch
-each-grouped : (fs : List Offered) (b : Buffer) → Grouped b → Grouped (appendEach fs b .outcome .after)
-each-grouped =
-    each-keeps Grouped
-    (λ f b o e g. record {
-      good = good-facts (o .after) (append-good b f places o e (facts-good b (g .good)));
-      ended = append-ended places f b g o e;
-    })
-
-batch-ended : (lent : ℕ) (fs : List Offered) (b : Buffer) → Grouped b → Ended (byBatch b (batch lent fs b) .after)
-unfolding batch
-batch-ended lent fs b g =
-    let Keeps : Result Batch → Type 0 = λ r. Ended (byBatch b r .after) in
-    by-test Keeps (ltb mostFrames (length fs)) (λ _. g .ended)
-    (λ _. by-test Keeps (ltb lent batchLines) (λ _. g .ended)
-    (λ _. each-grouped fs b g .ended))
-
-ranges-ended : (b : Buffer) (r : Result (List Range)) → Ended b → Ended (byRanges b r .after)
-ranges-ended b (refused why) e = e
-ranges-ended b (done rs) e = e
-
-walked-ended : (b : Buffer) (r : Result ℕ) → Ended b → Ended (byWalked b r .after)
-walked-ended b (refused why) e = e
-walked-ended b (done n) e = e
-
-reply-ended : (c : Call) (b : Buffer) → Grouped b → Ended (replyTo c b .after)
-unfolding replyTo
-reply-ended (appendCall lent f) b g = outcome-ended b (append lent f b) (g .ended) (append-ended lent f b g)
-reply-ended (removeCall lent start end) b g = remove-ended lent start end b g
-reply-ended abortCall b g = abort-ended b g
-reply-ended (modeCall m) b g = alike-ended b (modeSet m b) (mode-alike m b) (g .ended)
-reply-ended (offsetCall x) b g = setting-ended b (offsetSet x b) (offset-alike x b) (g .ended)
-reply-ended (windowStartCall x) b g = setting-ended b (windowStartSet x b) (window-start-alike x b) (g .ended)
-reply-ended (windowEndCall x) b g = setting-ended b (windowEndSet x b) (window-end-alike x b) (g .ended)
-reply-ended readCall b g = g .ended
-reply-ended (rangesCall lent track) b g = ranges-ended b (trackRanges lent track b) (g .ended)
-reply-ended (commonCall lent) b g = ranges-ended b (commonRanges lent b) (g .ended)
-reply-ended (batchCall lent fs) b g = batch-ended lent fs b g
-reply-ended (walkedCall lent track) b g = walked-ended b (walked lent track b) (g .ended)
-
-run-grouped : (b : Buffer) (cs : List Call) → Grouped b → Grouped (lastOf b cs)
-unfolding lastOf
-run-grouped b [] g = g
-run-grouped b (c ∷ cs) g = run-grouped (replyTo c b .after) cs (record { good = reply-lawful c b .good (g .good); ended = reply-ended c b g })
+pub ended-preserved : Preserved Ended
+ended-preserved = record {
+  by-append = appended-ended;
+  by-removal = removed-ended;
+  by-abort = λ b g _. aborted-ended b g;
+  by-setting = alike-ended;
+}
 
 -- ---- from a fresh buffer
 
 module _ (kinds : List ℕ) (made : create kinds ≡ done (fresh kinds)) (cs : List Call) where
-  started : Grouped (fresh kinds)
+  started : GoodWith Ended (fresh kinds)
   unfolding currentEnded
-  started = record { good = rw made at (created-good kinds); ended = all-none (endedOn (fresh kinds .tracks) 0) }
+  started = record { good = rw made at (created-good kinds); has = all-none (endedOn (fresh kinds .tracks) 0) }
 
   -- After every list of calls a track's frames of the current group end at or before its highest end, and there are none where it is unset.
   pub run-ended : currentEnded (lastOf (fresh kinds) cs) ≡ true
-  run-ended = run-grouped (fresh kinds) cs started .ended
+  run-ended = run-kept Ended ended-preserved (fresh kinds) cs started .has
 
   -- After every list of calls, and any frames of a batch after them: whatever frame is appended next, no frame of the group in which it is
   -- stored is told of.
   pub own-group-spared : (fs : List Offered) → SparesGroup (appendEach fs (lastOf (fresh kinds) cs) .outcome .after)
   own-group-spared fs =
-      let g = each-grouped fs (lastOf (fresh kinds) cs) (run-grouped (fresh kinds) cs started) in
-      spares _ (g .good) (g .ended)
+      let g = batch-kept Ended ended-preserved fs (lastOf (fresh kinds) cs) (run-kept Ended ended-preserved (fresh kinds) cs started) in
+      spares _ (g .good) (g .has)

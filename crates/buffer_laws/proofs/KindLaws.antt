@@ -20,7 +20,8 @@ use Rattle.buffer_state.specs.Limits.{places, lastNumber}
 use Rattle.buffer_state.specs.Ranges.{Range, trackRanges, commonRanges}
 use Rattle.buffer_state.specs.Refusals.{Result, refused, done}
 use Rattle.buffer_state.specs.Remove.{beforeBound, removalMarks, endsTrack, afterLoss, removalLacksGroup, removed, remove}
-use Rattle.buffer_state.specs.Run.{Call, appendCall, removeCall, abortCall, modeCall, offsetCall, windowStartCall, windowEndCall, readCall, rangesCall, commonCall, batchCall, walkedCall, byOutcome, bySetting, byRanges, byBatch, byWalked, replyTo, lastOf}
+use Rattle.buffer_state.specs.Run.{Call, appendCall, removeCall, abortCall, modeCall, offsetCall, windowStartCall, windowEndCall, readCall, rangesCall, commonCall, batchCall, walkedCall, seekCall, byOutcome, bySetting, byRanges, byBatch, byWalked, bySeek, replyTo, lastOf}
+use Rattle.buffer_state.specs.Seek.{Start, seek}
 use Rattle.buffer_state.specs.Settings.{aborted, abort, modeSet, offsetSet, windowEnd, windowStartSet, windowEndSet}
 use Rattle.buffer_state.specs.Store.{Marked}
 use Rattle.buffer_state.specs.Walked.{walked}
@@ -131,6 +132,10 @@ walked-kinds : (b : Buffer) (r : Result ℕ) → kindsOf (byWalked b r .after) �
 walked-kinds b (refused why) = refl
 walked-kinds b (done n) = refl
 
+seek-kinds : (b : Buffer) (r : Result Start) → kindsOf (bySeek b r .after) ≡ kindsOf b
+seek-kinds b (refused why) = refl
+seek-kinds b (done s) = refl
+
 outcome-kinds : (b : Buffer) (r : Result Outcome) → IfDone (Kinds b) r → kindsOf (byOutcome b r .after) ≡ kindsOf b
 outcome-kinds b (refused why) e = refl
 outcome-kinds b (done o) e = e
@@ -170,6 +175,7 @@ reply-kinds (batchCall lent fs) b =
     (λ _. by-test Same (ltb lent batchLines) (λ _. refl)
     (λ _. each-keeps (λ (c : Buffer). kindsOf c ≡ kindsOf b) (λ f c o e same. if-done (Kinds c) (append places f c) (append-kinds places f c) e ∙ same) fs b refl))
 reply-kinds (walkedCall lent track) b = walked-kinds b (walked lent track b)
+reply-kinds (seekCall track t) b = seek-kinds b (seek track t b)
 
 run-kinds : (b : Buffer) (cs : List Call) → kindsOf (lastOf b cs) ≡ kindsOf b
 unfolding lastOf

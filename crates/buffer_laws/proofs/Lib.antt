@@ -1,4 +1,5 @@
 pub mod TestLaws
+pub mod MemberLaws
 pub mod LayoutLaws
 pub mod RowLaws
 pub mod LentLaws
@@ -8,6 +9,9 @@ pub mod RangeLaws
 pub mod CommonLaws
 pub mod OrderLaws
 pub mod StoreLaws
+pub mod WalkLaws
+pub mod DecodeLaws
+pub mod SeekLaws
 pub mod GoodLaws
 pub mod ReportLaws
 pub mod AppendLaws
@@ -16,8 +20,11 @@ pub mod SettingLaws
 pub mod CallLaws
 pub mod BatchLaws
 pub mod RunLaws
+pub mod ReplyLaws
 pub mod SpareLaws
 pub mod GroupLaws
+pub mod LedAppendLaws
+pub mod LedLaws
 pub mod AccountLaws
 pub mod KindLaws
 pub mod KeptLaws

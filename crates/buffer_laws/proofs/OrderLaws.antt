@@ -1,5 +1,5 @@
--- Store order: `before` is transitive, of two frames with different numbers one comes before the other, and inserting keeps a list
--- sorted, keeps what every frame passes, and adds the frame's weight.
+-- Store order: `before` is transitive, no frame comes before itself, of two frames with different numbers one comes before the other, and
+-- inserting keeps a list sorted, keeps its frames and what every frame passes, and adds the frame's weight.
 use mathlib.Core.Path.{_≡_, refl, sym, ap, _∙_}
 use mathlib.Core.Bool.{Bool, true, false, not, _&&_}
 use mathlib.Core.List.{List, [], _∷_}
@@ -7,14 +7,16 @@ use Prim.Native.Nat.{ℕ, suc, _+_, _<_, _≤_}
 use native.Mathlib.Omega.{arith}
 use lib.Dec.{eqb}
 use lib.ListN.{length}
-use lib.Signed.{ltZ, _<ℤ_, _≤ℤ_}
+use lib.Signed.{ltZ, _<ℤ_, _≤ℤ_, <ℤ-irrefl}
 use borrow.Author.Tests.{ltb-true, ltb-false, eqb-true, eqb-false, lt-ltb, eq-eqb, ne-eqb, not-true}
-use Rattle.laws.proofs.BoolLaws.{clash, split, by-test, and-left, and-right, and-both, same-test}
-use Rattle.laws.proofs.IntLaws.{test-lt, lt-test, test-ge, ge-test, lt-lt, le-refl, le-antisym}
+use Rattle.laws.proofs.BoolLaws.{clash, both-ways, split, by-test, and-left, and-right, and-both, same-test}
+use Rattle.laws.proofs.IntLaws.{test-lt, lt-test, test-ge, ge-test, below-or-not, lt-lt, le-refl, le-antisym}
 use Rattle.buffer_state.specs.declared.Frame.{Frame}
+use Rattle.buffer_state.specs.Seek.{someOf}
 use Rattle.buffer_state.specs.Store.{before, insertSorted}
 use Rattle.buffer_state.specs.WellFormed.{allOf, pairwise, sorted}
 use Rattle.buffer_state.specs.Run.{total}
+use Rattle.buffer_laws.proofs.MemberLaws.{In, here, there, in-some, some-passing}
 use Rattle.buffer_laws.proofs.TestLaws.{all-first, all-rest, all-more, all-none, all-weaker, pairs-first, pairs-rest, pairs-more, pairs-none}
 
 -- ---- the order
@@ -59,6 +61,19 @@ chain a b c (by-number t d h) (by-number u e g) = by-number (t ∙ u) (d ∙ e) 
 pub before-trans : (a b c : Frame) → before a b ≡ true → before b c ≡ true → before a c ≡ true
 before-trans a b c h g = why-before a c (chain a b c (before-why a b h) (before-why b c g))
 
+-- no frame comes before itself
+pub before-self : (a : Frame) → before a a ≡ false
+before-self a = split (before a a) (λ e. absurd (circle (before-why a a e))) (λ e. e)
+  where
+    circle : Before a a → ⊥
+    circle (by-track h) = omega arith
+    circle (by-dts t h) = <ℤ-irrefl h
+    circle (by-number t d h) = omega arith
+
+-- nor before one that comes before it
+pub before-turned : (a b : Frame) → before a b ≡ true → before b a ≡ false
+before-turned a b h = split (before b a) (λ k. both-ways (before-trans a b a h k) (before-self a)) (λ k. k)
+
 -- of two frames with different numbers, one comes before the other
 pub before-total : (a b : Frame) → eqb (a .number) (b .number) ≡ false → before a b ≡ false → before b a ≡ true
 unfolding before
@@ -72,6 +87,11 @@ before-total a b n =
     why-before b a (by-number (sym (eqb-true (a .track) (b .track) t)) (le-antisym (test-ge d) (test-ge g)) (omega (arith, eqb-false (a .number) (b .number) n))))))
     (λ t e. let h : b .track ≤ a .track = ltb-false (a .track) (b .track) (rw t at e) in
     why-before b a (by-track (omega (arith, eqb-false (a .track) (b .track) t))))
+
+-- of two frames of one track, one that is decoded no later and has the smaller number comes before the other
+pub before-later : (a b : Frame) → a .track ≡ b .track → a .dts ≤ℤ b .dts → a .number < b .number → before a b ≡ true
+before-later a b t d n =
+    below-or-not (a .dts) (b .dts) (λ h. why-before a b (by-dts t h)) (λ h. why-before a b (by-number t (le-antisym d h) n))
 
 -- ---- neighbours decide
 
@@ -128,6 +148,20 @@ module _ (f : Frame) where
       (λ b. pairs-more before g (insertSorted f gs)
       (insert-all (before g) gs (before-total f g (not-true _ (all-first others g gs h)) b) after)
       (insert-sorted gs (all-rest others g gs h) (pairs-rest before g gs e)))
+
+  -- the new frame is there, and those that were
+  pub insert-new : (fs : List Frame) → In f (insertSorted f fs)
+  unfolding insertSorted
+  insert-new [] = here refl
+  insert-new (g ∷ gs) = by-test (In f) (before f g) (λ _. here refl) (λ _. there (insert-new gs))
+
+  insert-in : {x : Frame} (fs : List Frame) → In x fs → In x (insertSorted f fs)
+  unfolding insertSorted
+  insert-in {x} (g ∷ gs) (here q) = by-test (In x) (before f g) (λ _. there (here q)) (λ _. here q)
+  insert-in {x} (g ∷ gs) (there i) = by-test (In x) (before f g) (λ _. there (there i)) (λ _. there (insert-in gs i))
+
+  pub insert-some : (p : Frame → Bool) (fs : List Frame) → someOf p fs ≡ true → someOf p (insertSorted f fs) ≡ true
+  insert-some p fs e = let found = some-passing p fs e in in-some p (insertSorted f fs) (insert-in fs (found .among)) (found .passes)
 
   pub insert-length : (fs : List Frame) → length (insertSorted f fs) ≡ suc (length fs)
   unfolding insertSorted

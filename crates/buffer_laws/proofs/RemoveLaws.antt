@@ -17,9 +17,11 @@ use Rattle.buffer_state.specs.Store.{Marked}
 use Rattle.buffer_state.specs.Append.{moved, regrouped}
 use Rattle.buffer_state.specs.Remove.{beforeBound, farEdge, removalMarks, endsTrack, afterLoss, endsAny, removalLacksGroup, removed}
 use Rattle.buffer_state.specs.Run.{total}
-use Rattle.buffer_state.specs.WellFormed.{allOf, goodFrame}
+use Rattle.buffer_state.specs.Seek.{led}
+use Rattle.buffer_state.specs.WellFormed.{allOf, goodFrame, sorted}
 use Rattle.buffer_laws.proofs.TestLaws.{all-first, all-rest, all-weaker}
 use Rattle.buffer_laws.proofs.StoreLaws.{framesOf, marks-frames, left-all, left-and-told, told-cause}
+use Rattle.buffer_laws.proofs.WalkLaws.{left-led}
 use Rattle.buffer_laws.proofs.GoodLaws.{frame-facts, frames-later, frames-left, Good}
 use Rattle.buffer_laws.proofs.AppendLaws.{regrouped-number, regrouped-good, Untouched, Accounts}
 
@@ -86,6 +88,15 @@ module _ (s : ℤ) (e : Bound) (b : Buffer) where
     last = omega (arith, lost-untouched (removalMarks s e (b .frames)) b .last);
     causes = told-cause goes 6 (b .frames) (λ (c : ℕ). leb 1 c && leb c 6) refl refl;
   }
+
+  pub removal-frames : framesOf (removalMarks s e (b .frames)) ≡ b .frames
+  unfolding removalMarks goes
+  removal-frames = marks-frames goes 6 (b .frames)
+
+  -- a removal leaves every frame led
+  pub removed-led : sorted (b .frames) ≡ true → led (b .frames) ≡ true → led (removed s e b .after .frames) ≡ true
+  unfolding removed removalMarks goes
+  removed-led order l = left-led goes 6 (b .frames) order l
 
   -- what every stored frame passed, those left pass
   pub removed-all : (q : Frame → Bool) → allOf q (b .frames) ≡ true → allOf q (removed s e b .after .frames) ≡ true

@@ -20,7 +20,8 @@ use Rattle.buffer_state.specs.Batch.{Batch, mostFrames, batchLines, batch}
 use Rattle.buffer_state.specs.Remove.{beforeBound, removalLacksGroup, removed, remove}
 use Rattle.buffer_state.specs.Ranges.{Range, trackRanges, commonRanges}
 use Rattle.buffer_state.specs.Settings.{create, abort, modeSet, offsetSet, windowStartSet, windowEndSet}
-use Rattle.buffer_state.specs.Run.{Call, appendCall, removeCall, abortCall, modeCall, offsetCall, windowStartCall, windowEndCall, readCall, rangesCall, commonCall, batchCall, walkedCall, Answer, ok, ranges, Reply, byOutcome, bySetting, byRanges, byBatch, byWalked, replyTo, run, lastOf, linesIn, handedOut, offeredBy, offers, onOffered}
+use Rattle.buffer_state.specs.Run.{Call, appendCall, removeCall, abortCall, modeCall, offsetCall, windowStartCall, windowEndCall, readCall, rangesCall, commonCall, batchCall, walkedCall, seekCall, Answer, ok, ranges, Reply, byOutcome, bySetting, byRanges, byBatch, byWalked, bySeek, replyTo, run, lastOf, linesIn, handedOut, offeredBy, offers, onOffered}
+use Rattle.buffer_state.specs.Seek.{Start, seek}
 use Rattle.buffer_state.specs.Walked.{walked}
 use Rattle.buffer_laws.proofs.LayoutLaws.{good-well-formed, well-formed-good}
 use Rattle.buffer_laws.proofs.GoodLaws.{Good, good-facts, facts-good}
@@ -62,6 +63,10 @@ walked-lawful : (lent track : ℕ) (b : Buffer) (r : Result ℕ) → LawfulReply
 walked-lawful lent track b (refused why) = same b
 walked-lawful lent track b (done n) = same b
 
+seek-lawful : (track : ℕ) (t : ℤ) (b : Buffer) (r : Result Start) → LawfulReply (seekCall track t) b (bySeek b r)
+seek-lawful track t b (refused why) = same b
+seek-lawful track t b (done s) = same b
+
 -- Preservation and conservation, of every call on every buffer.
 pub reply-lawful : (c : Call) (b : Buffer) → LawfulReply c b (replyTo c b)
 unfolding replyTo remove batch
@@ -87,6 +92,7 @@ reply-lawful (batchCall lent fs) b =
     (λ _. by-test Law (ltb lent batchLines) (λ _. same b)
     (λ _. each-lawful fs b))
 reply-lawful (walkedCall lent track) b = walked-lawful lent track b (walked lent track b)
+reply-lawful (seekCall track t) b = seek-lawful track t b (seek track t b)
 
 -- ---- on states: every call on a well-formed state leaves a well-formed state, and creation gives one
 

@@ -1,17 +1,18 @@
 -- Step 8's walk stays inside the groups that lost a frame before it: where the frames taken first are of other groups, so are all that
--- are taken, and no line tells of a frame of the group.
-use mathlib.Core.Path.{_≡_, refl, sym}
+-- are taken; the group's frames stay, and no line tells of one.
+use mathlib.Core.Path.{_≡_, refl, sym, ap}
 use mathlib.Core.Bool.{Bool, true, false, cond, not, _&&_, _||_}
 use mathlib.Core.List.{List, [], _∷_}
 use Prim.Native.Nat.{ℕ}
 use lib.Dec.{eqb}
 use borrow.Author.Tests.{not-true, eqb-true, eq-eqb, ne-eqb, eqb-false}
-use Rattle.laws.proofs.BoolLaws.{both-ways, by-test, and-right, or-cases, or-left, or-right}
+use Rattle.laws.proofs.BoolLaws.{both-ways, split, by-test, and-right, or-cases, or-left, or-right}
 use Rattle.buffer_state.specs.declared.Frame.{Frame}
 use Rattle.buffer_state.specs.Groups.{untold}
-use Rattle.buffer_state.specs.Store.{Marked, isTaken, markWhere, isOf, followsTaken, walkOne, walkFrom, walk, Line, linesOf}
+use Rattle.buffer_state.specs.Seek.{someOf}
+use Rattle.buffer_state.specs.Store.{Marked, isTaken, markWhere, isOf, followsTaken, walkOne, walkFrom, walk, kept, Line, linesOf}
 use Rattle.buffer_state.specs.WellFormed.{allOf, pairwise, distinctNumbers}
-use Rattle.buffer_laws.proofs.StoreLaws.{framesOf, marks-frames}
+use Rattle.buffer_laws.proofs.StoreLaws.{framesOf, kept-some, marks-frames}
 use Rattle.buffer_laws.proofs.TestLaws.{all-first, all-rest, all-more, all-none, all-weaker, all-from-both, pairs-first, pairs-rest}
 
 -- a test that holds of the group's frames
@@ -68,6 +69,17 @@ module _ (group : ℕ) where
       (or-cases (not (eqb (f .group) group)) (not (p f)) (all-first (λ (g : Frame). ofGroup group g (not (p g))) f fs e)
       (λ other. or-left _ _ other) (λ out. or-right (not (eqb (f .group) group)) _ (rw (not-true (p f) out) refl)))
       (marks-spared p c fs (all-rest (λ (g : Frame). ofGroup group g (not (p g))) f fs e))
+
+  -- Where the frames that pass a test are of other groups, their taking leaves any of the group that there was.
+  pub taking-leaves : (p : Frame → Bool) (c : ℕ) (fs : List Frame) → allOf (λ (f : Frame). ofGroup group f (not (p f))) fs ≡ true
+      → (q : Frame → Bool) → ((f : Frame) → q f ≡ true → f .group ≡ group) → someOf q fs ≡ true → someOf q (kept (walk (markWhere p c fs))) ≡ true
+  taking-leaves p c fs e q own h =
+      let ms = walk (markWhere p c fs) in
+      kept-some q ms (all-weaker spared _ stays ms (walk-spares [] (markWhere p c fs) (all-none spared) (marks-spared p c fs e))) (rw (marks-frames p c fs) h)
+    where
+      stays : (m : Marked) → spared m ≡ true → (not (q (m .frame)) || not (isTaken m)) ≡ true
+      stays m s =
+          split (q (m .frame)) (λ t. or-right (not (q (m .frame))) _ (ap not (spared-stays m (own (m .frame) t) s))) (λ t. or-left _ _ (ap not t))
 
   -- ---- the lines
 

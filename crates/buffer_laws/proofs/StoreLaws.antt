@@ -8,8 +8,9 @@ use native.Mathlib.Omega.{arith}
 use lib.Dec.{eqb}
 use lib.ListN.{length}
 use borrow.Author.Tests.{not-true}
-use Rattle.laws.proofs.BoolLaws.{by-test, or-right, or-cases, both-ways}
+use Rattle.laws.proofs.BoolLaws.{by-test, or-left, or-right, or-cases, both-ways}
 use Rattle.buffer_state.specs.declared.Frame.{Frame}
+use Rattle.buffer_state.specs.Seek.{someOf}
 use Rattle.buffer_state.specs.Store.{Marked, isTaken, markWhere, followsTaken, walkOne, walkFrom, walk, kept, Line, linesOf}
 use Rattle.buffer_state.specs.WellFormed.{allOf, pairwise}
 use Rattle.buffer_state.specs.Run.{total}
@@ -23,11 +24,11 @@ framesOf = map frameOf
 
 -- ---- marking and walking change no frame
 
-mark-frames : (p : Frame → Bool) (c : ℕ) (fs : List Frame) → framesOf (markWhere p c fs) ≡ fs
+pub mark-frames : (p : Frame → Bool) (c : ℕ) (fs : List Frame) → framesOf (markWhere p c fs) ≡ fs
 mark-frames p c [] = refl
 mark-frames p c (f ∷ fs) = ap (λ (l : List Frame). f ∷ l) (mark-frames p c fs)
 
-walk-one-frame : (walked : List Marked) (m : Marked) → walkOne walked m .frame ≡ m .frame
+pub walk-one-frame : (walked : List Marked) (m : Marked) → walkOne walked m .frame ≡ m .frame
 walk-one-frame walked m =
     by-test (λ (n : Marked). n .frame ≡ m .frame)
     (not (isTaken m) && (not (m .frame .flagged) && followsTaken (m .frame .track) (m .frame .group) walked)) (λ _. refl) (λ _. refl)
@@ -56,6 +57,17 @@ kept-pairs r (m ∷ ms) e =
     let rest = kept-pairs r ms (pairs-rest r (m .frame) (framesOf ms) e) in
     by-test (λ l. pairwise r l ≡ true) (isTaken m) (λ _. rest)
     (λ _. pairs-more r (m .frame) (kept ms) (kept-all (r (m .frame)) ms (pairs-first r (m .frame) (framesOf ms) e)) rest)
+
+-- where none that passes is taken, one that passes stays
+pub kept-some : (p : Frame → Bool) (ms : List Marked) → allOf (λ (m : Marked). not (p (m .frame)) || not (isTaken m)) ms ≡ true
+    → someOf p (framesOf ms) ≡ true → someOf p (kept ms) ≡ true
+unfolding kept someOf
+kept-some p [] s e = e
+kept-some p (m ∷ ms) s e =
+    let free : Marked → Bool = λ m. not (p (m .frame)) || not (isTaken m) in
+    or-cases (p (m .frame)) (someOf p (framesOf ms)) e
+    (λ h. let stays : isTaken m ≡ false = not-true _ (rw h at (all-first free m ms s)) in rw stays (or-left _ _ h))
+    (λ h. let rest = kept-some p ms (all-rest free m ms s) h in by-test (λ (l : List Frame). someOf p l ≡ true) (isTaken m) (λ _. rest) (λ _. or-right (p (m .frame)) _ rest))
 
 pub kept-length : (ms : List Marked) → length (kept ms) ≤ length (framesOf ms)
 unfolding kept

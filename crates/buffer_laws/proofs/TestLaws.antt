@@ -3,6 +3,7 @@ use mathlib.Core.Path.{_≡_, refl}
 use mathlib.Core.Bool.{Bool, true, false}
 use mathlib.Core.List.{List, [], _∷_, _++_, map}
 use Prim.Native.Nat.{ℕ, zero, suc, _+_, _≤_, _<_}
+use native.Mathlib.Omega.{arith}
 use lib.ListN.{length, take, drop, getD, set, replicate}
 use Rattle.laws.proofs.BoolLaws.{and-left, and-right, and-both}
 use Rattle.laws.proofs.ListLaws.{first-next, first-end}
@@ -26,6 +27,12 @@ module _ {A : Type 0} (p : A → Bool) where
   all-getD [] i z h e = h
   all-getD (x ∷ xs) zero z h e = all-first x xs e
   all-getD (x ∷ xs) (suc i) z h e = all-getD xs i z h (all-rest x xs e)
+
+  -- any place inside the list
+  pub all-place : (l : List A) (i : ℕ) (z : A) → i < length l → allOf p l ≡ true → p (getD l i z) ≡ true
+  all-place [] i z h e = absurd (omega arith)
+  all-place (x ∷ xs) zero z h e = all-first x xs e
+  all-place (x ∷ xs) (suc i) z h e = all-place xs i z (omega arith) (all-rest x xs e)
 
   pub all-set : (l : List A) (i : ℕ) (y : A) → p y ≡ true → allOf p l ≡ true → allOf p (set l i y) ≡ true
   all-set [] i y h e = e
@@ -66,6 +73,12 @@ module _ {A B : Type 0} (p : A → Bool) (q : B → Bool) (f : A → B) (h : (x 
   unfolding allOf
   all-map [] e = refl
   all-map (x ∷ xs) e = all-more q (f x) (map f xs) (h x (all-first p x xs e)) (all-map xs (all-rest p x xs e))
+
+-- what is mapped passes, whatever it was
+pub map-all : {A B : Type 0} (q : B → Bool) (f : A → B) → ((x : A) → q (f x) ≡ true) → (l : List A) → allOf q (map f l) ≡ true
+unfolding allOf
+map-all q f h [] = refl
+map-all q f h (x ∷ xs) = all-more q (f x) (map f xs) (h x) (map-all q f h xs)
 
 module _ {A : Type 0} (p q : A → Bool) (h : (x : A) → p x ≡ true → q x ≡ true) where
   -- a weaker test

@@ -17,6 +17,8 @@ use Rattle.buffer_state.specs.declared.Mode.{Mode}
 use Rattle.buffer_state.specs.declared.Offered.{Offered}
 use Rattle.buffer_state.specs.declared.Read.{Read}
 use Rattle.buffer_state.specs.declared.Read.the-variants as Read
+use Rattle.buffer_state.specs.declared.Sought.{Sought}
+use Rattle.buffer_state.specs.declared.Sought.the-variants as Sought
 use Rattle.buffer_state.specs.declared.WindowEnd.{WindowEnd}
 use Rattle.buffer_state.specs.declared.WindowEnd.the-variants.{Unbounded, At}
 use Rattle.buffer_state.specs.Append.{Outcome, append}
@@ -28,6 +30,7 @@ use Rattle.buffer_state.specs.Refusals.{Result, refused, done}
 use Rattle.buffer_state.specs.Remove.{remove}
 use Rattle.buffer_state.specs.Settings.{create, abort, modeSet, offsetSet, windowStartSet, windowEndSet, Reading, reading}
 use Rattle.buffer_state.specs.Store.{Line}
+use Rattle.buffer_state.specs.Seek.{Start, seek}
 use Rattle.buffer_state.specs.Walked.{walked}
 
 -- creation, abort and the setters: after a refusal, the head that is given first
@@ -149,3 +152,12 @@ takenCount (done n) = Count.Done n
 
 unfoldable pub walkedResult : ℕ → ℕ → Head → List (List ℤ) → List (List ℕ) → Result ℕ
 walkedResult lent track = onLent (walked lent track)
+
+-- ---- where to start decoding
+
+abbrev pub sought : Result Start → Sought
+sought (refused why) = Sought.Refused why
+sought (done s) = Sought.Found (s .target) (s .flagged) (s .count)
+
+unfoldable pub seekResult : ℕ → ℤ → Head → List (List ℤ) → List (List ℕ) → Result Start
+seekResult track t = onLent (seek track t)

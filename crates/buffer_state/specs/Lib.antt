@@ -10,6 +10,7 @@ pub mod Remove
 pub mod Settings
 pub mod Ranges
 pub mod Walked
+pub mod Seek
 pub mod State
 pub mod Layout
 pub mod Lent

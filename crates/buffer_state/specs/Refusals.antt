@@ -2,7 +2,7 @@
 use mathlib.Core.Bool.{Bool, cond}
 use Prim.Native.Nat.{ℕ}
 use Rattle.buffer_state.specs.declared.Refusal.{Refusal}
-use Rattle.buffer_state.specs.declared.Refusal.the-variants.{IllFormed, ShortFates, NoTrack, FrameLimits, Seconds, Order, ResultLimits, Full, LastNumber, ShortList, Kinds, Malformed, LentSize, LargeFragment}
+use Rattle.buffer_state.specs.declared.Refusal.the-variants.{IllFormed, ShortFates, NoTrack, FrameLimits, Seconds, Order, ResultLimits, Full, LastNumber, ShortList, Kinds, Malformed, LentSize, LargeFragment, NoStart}
 use Rattle.buffer_state.specs.declared.Stop.{Stop}
 use Rattle.buffer_state.specs.declared.Stop.the-variants.{Nothing, By}
 
@@ -22,6 +22,7 @@ refusalNumber Kinds = 11
 refusalNumber Malformed = 12
 refusalNumber LentSize = 13
 refusalNumber LargeFragment = 14
+refusalNumber NoStart = 15
 
 -- of what stopped a batch: 0 where nothing did
 abbrev pub stopNumber : Stop → ℕ

@@ -3,6 +3,7 @@ use mathlib.Core.Bool.{Bool, cond, _&&_}
 use mathlib.Core.List.{List, [], _∷_, _++_, map}
 use Prim.Native.Nat.{ℕ, _+_, _-_}
 use lib.Dec.{leb, eqb}
+use lib.IntN.{ℤ}
 use lib.Ieee.{Float}
 use lib.ListN.{take, getD}
 use Rattle.buffer_state.specs.declared.Frame.{Frame}
@@ -18,6 +19,7 @@ use Rattle.buffer_state.specs.Remove.{remove}
 use Rattle.buffer_state.specs.Settings.{abort, modeSet, offsetSet, windowStartSet, windowEndSet, Reading, reading}
 use Rattle.buffer_state.specs.Ranges.{Range, trackRanges, commonRanges}
 use Rattle.buffer_state.specs.Walked.{walked}
+use Rattle.buffer_state.specs.Seek.{Start, seek}
 
 -- a call with its arguments except the state; of a lent list, how many places it has
 pub data Call : Type 0 where
@@ -33,6 +35,7 @@ pub data Call : Type 0 where
   commonCall : ℕ → Call
   batchCall : ℕ → List Offered → Call
   walkedCall : ℕ → ℕ → Call
+  seekCall : ℕ → ℤ → Call
 
 -- what a call that is not refused hands out
 pub data Answer : Type 0 where
@@ -42,6 +45,7 @@ pub data Answer : Type 0 where
   ranges : List Range → Answer
   accepted : ℕ → Stop → List Line → Answer
   taken : ℕ → Answer
+  decoding : Start → Answer
 
 -- a call's result, and the buffer after it
 pub record Reply : Type 0 where
@@ -71,6 +75,10 @@ abbrev pub byWalked : Buffer → Result ℕ → Reply
 byWalked b (refused why) = record { result = refused why; after = b }
 byWalked b (done n) = record { result = done (taken n); after = b }
 
+abbrev pub bySeek : Buffer → Result Start → Reply
+bySeek b (refused why) = record { result = refused why; after = b }
+bySeek b (done s) = record { result = done (decoding s); after = b }
+
 unfoldable pub replyTo : Call → Buffer → Reply
 replyTo (appendCall lent f) b = byOutcome b (append lent f b)
 replyTo (removeCall lent start end) b = byOutcome b (remove lent start end b)
@@ -84,6 +92,7 @@ replyTo (rangesCall lent track) b = byRanges b (trackRanges lent track b)
 replyTo (commonCall lent) b = byRanges b (commonRanges lent b)
 replyTo (batchCall lent fs) b = byBatch b (batch lent fs b)
 replyTo (walkedCall lent track) b = byWalked b (walked lent track b)
+replyTo (seekCall track t) b = bySeek b (seek track t b)
 
 -- ---- the run
 
@@ -111,6 +120,7 @@ linesIn (done (settings r)) = []
 linesIn (done (ranges rs)) = []
 linesIn (done (accepted n stop ls)) = ls
 linesIn (done (taken n)) = []
+linesIn (done (decoding s)) = []
 
 -- the lines that a run hands out
 unfoldable pub handedOut : List Entry → List Line
@@ -126,6 +136,7 @@ acceptedIn (done (settings r)) = 0
 acceptedIn (done (ranges rs)) = 0
 acceptedIn (done (accepted n stop ls)) = n
 acceptedIn (done (taken n)) = 0
+acceptedIn (done (decoding s)) = 0
 
 -- The tracks of the frames offered by a call: of an append that is not refused, the one that it names; of a batch those that its
 -- accepted frames name, in list order.
@@ -143,6 +154,7 @@ offeredBy (rangesCall lent track) r = []
 offeredBy (commonCall lent) r = []
 offeredBy (batchCall lent fs) r = map (λ (f : Offered). f .track) (take (acceptedIn r) fs)
 offeredBy (walkedCall lent track) r = []
+offeredBy (seekCall track t) r = []
 
 -- the tracks of all frames offered in a run: the n-th over all tracks is frame n
 unfoldable pub offers : List Entry → List ℕ

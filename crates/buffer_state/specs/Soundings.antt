@@ -1,6 +1,6 @@
 -- Document 01, "Soundings to check against": cases A to K in one table, each with its whole outcome and an equation of its own, and one
 -- proof of all; with them two refused calls of L in the midst of a run, two removals of our own, batches (document 02, No. 2), how many frames
--- the walk of a report takes (No. 3), and coded frame groups (No. 4).
+-- the walk of a report takes (No. 3), coded frame groups (No. 4), and where to start decoding (No. 6).
 -- Video, one track, durations 100; R is a flagged frame, P one that is not, both given by presentation and decode time.
 use mathlib.Core.Path.{_≡_, refl}
 use mathlib.Core.Bool.{Bool, true, false}
@@ -15,7 +15,7 @@ use Rattle.buffer_state.specs.declared.Track.{Track}
 use Rattle.buffer_state.specs.declared.Mode.the-variants.{Segments, Sequence}
 use Rattle.buffer_state.specs.declared.Group.{Group}
 use Rattle.buffer_state.specs.declared.Offered.{Offered}
-use Rattle.buffer_state.specs.declared.Refusal.the-variants.{FrameLimits, LastNumber, LentSize, NoTrack, Seconds, ShortFates}
+use Rattle.buffer_state.specs.declared.Refusal.the-variants.{FrameLimits, LastNumber, LentSize, NoStart, NoTrack, Seconds, ShortFates}
 use Rattle.buffer_state.specs.declared.Stop.the-variants.{Nothing, By}
 use Rattle.buffer_state.specs.declared.WindowEnd.the-variants.{Unbounded, At}
 use Rattle.buffer_state.specs.Buffer.{Buffer, fresh, freshTrack, freshSettings}
@@ -27,8 +27,9 @@ use Rattle.buffer_state.specs.Batch.{offeredIn, appendEach, batch}
 use Rattle.buffer_state.specs.Remove.{farEdge, removalMarks, afterLoss, endsAny, removalLacksGroup, removed, remove}
 use Rattle.buffer_state.specs.Settings.{aborted, abort, modeSet, offsetSet, windowStartSet, windowEndSet}
 use Rattle.buffer_state.specs.Ranges.{Range, joined, rangesOf}
+use Rattle.buffer_state.specs.Seek.{Start, over, targetOf, upTo, fromFlagged, toDecode, seek}
 use Rattle.buffer_state.specs.Walked.{presentedWith, presented, takenFrom, takenOf, walked}
-use Rattle.buffer_state.specs.Run.{Call, appendCall, removeCall, abortCall, modeCall, offsetCall, windowStartCall, windowEndCall, batchCall, walkedCall, Answer, ok, fates, accepted, taken, Entry, replyTo, run, lastOf}
+use Rattle.buffer_state.specs.Run.{Call, appendCall, removeCall, abortCall, modeCall, offsetCall, windowStartCall, windowEndCall, batchCall, walkedCall, seekCall, Answer, ok, fates, accepted, taken, decoding, Entry, replyTo, run, lastOf}
 
 -- a case: the calls on a fresh buffer of one video track, and what they come to
 pub record Case : Type 0 where
@@ -402,6 +403,50 @@ caseX = record {
   ranges = range 0 100 ∷ range 200 300 ∷ [];
 }
 
+-- an answer to a seek: target, flagged frame, how many frames to decode
+abbrev decode : ℕ → ℕ → ℕ → Result Answer
+decode target flagged n = done (decoding (record { target = target; flagged = flagged; count = n }))
+
+-- Ours: the frames of case T, store order 1, 3, 2, 4, 5. From 2 the walk goes back to 1 past 3, which is flagged and of another group; 2 is
+-- not counted on the way from 4 to 3; 5 is its own start. A frame's end, what is before the first frame and another track have no target.
+abbrev caseY : Case
+caseY = record {
+  calls =
+      R 0 0 ∷ P 500 150 ∷ abortCall ∷ R 100 50 ∷ P 200 200 ∷ R 300 250
+      ∷ seekCall 1 (pos 550) ∷ seekCall 1 (pos 250) ∷ seekCall 1 (pos 399) ∷ seekCall 1 (pos 0)
+      ∷ seekCall 1 (pos 400) ∷ seekCall 1 (negℤ (pos 1)) ∷ seekCall 2 (pos 0) ∷ [];
+  results =
+      told [] ∷ told [] ∷ done ok ∷ told [] ∷ told [] ∷ told []
+      ∷ decode 2 1 2 ∷ decode 4 3 2 ∷ decode 5 5 1 ∷ decode 1 1 1
+      ∷ refused NoStart ∷ refused NoStart ∷ refused NoTrack ∷ [];
+  left =
+      plainIn 1 (following 250 400)
+      (frame 1 true 0 0 ∷ frameOf 1 3 true 100 50 ∷ frame 2 false 500 150 ∷ frameOf 1 4 false 200 200 ∷ frameOf 1 5 true 300 250 ∷ []) 600 5;
+  ranges = range 0 400 ∷ range 500 600 ∷ [];
+}
+
+-- Ours: three frames that cover one instant, two of them with one presentation time: the later number is picked, and where 4 covers it
+-- too, with a smaller presentation time and a greater number, it is not.
+abbrev caseZ : Case
+caseZ = record {
+  calls = R 0 0 ∷ P 50 50 ∷ P 50 100 ∷ P 20 150 ∷ seekCall 1 (pos 75) ∷ seekCall 1 (pos 149) ∷ seekCall 1 (pos 25) ∷ seekCall 1 (pos 19) ∷ [];
+  results = told [] ∷ told [] ∷ told [] ∷ told [] ∷ decode 3 1 3 ∷ decode 3 1 3 ∷ decode 4 1 4 ∷ decode 1 1 1 ∷ [];
+  left = plain (following 150 150) (frame 1 true 0 0 ∷ frame 2 false 50 50 ∷ frame 3 false 50 100 ∷ frame 4 false 20 150 ∷ []) 150 4;
+  ranges = range 0 150 ∷ [];
+}
+
+-- Ours: a state handed in whose frame has no flagged one at or before it: 3 is of another group, 2 stands behind it.
+abbrev unled : Buffer
+unled = plainIn 1 (following 200 300) (frameOf 1 3 true 0 0 ∷ frame 1 false 100 100 ∷ frame 2 true 200 200 ∷ []) 300 3
+
+abbrev caseZunled : Case
+caseZunled = record {
+  calls = seekCall 1 (pos 100) ∷ seekCall 1 (pos 0) ∷ seekCall 1 (pos 200) ∷ [];
+  results = refused NoStart ∷ decode 3 3 1 ∷ decode 2 2 1 ∷ [];
+  left = unled;
+  ranges = range 0 300 ∷ [];
+}
+
 -- ---- the table
 
 -- what the definitions make of a case's calls, from a buffer on
@@ -452,9 +497,12 @@ pub record Table : Type 0 where
   pub U : Holds caseU
   pub W : Holds caseW
   pub X : HoldsFrom (plainIn lastGroup waiting [] 0 0) caseX
+  pub Y : Holds caseY
+  pub Z : Holds caseZ
+  pub Z-unled : HoldsFrom unled caseZunled
 
 pub soundings-hold : Table
-unfolding tieOf roundOf nearestOf convertible convertibleEnd microsOf secondsOf boundOf sameInt offeredTime resultTime goodDuration before insertSorted followsTaken walkFrom kept linesOf stepOne stepTwo passOf fits moved regrouped breaks secondPass lastPass leavesLimits lacksGroup overlapped overlapMarks stepNine stored settled appended offerable append appendEach batch farEdge removalMarks afterLoss endsAny removalLacksGroup removed remove aborted abort modeSet offsetSet windowStartSet windowEndSet joined rangesOf presentedWith presented takenFrom takenOf walked replyTo run lastOf ofBits ofInt div
+unfolding tieOf roundOf nearestOf convertible convertibleEnd microsOf secondsOf boundOf sameInt offeredTime resultTime goodDuration before insertSorted followsTaken walkFrom kept linesOf stepOne stepTwo passOf fits moved regrouped breaks secondPass lastPass leavesLimits lacksGroup overlapped overlapMarks stepNine stored settled appended offerable append appendEach batch farEdge removalMarks afterLoss endsAny removalLacksGroup removed remove aborted abort modeSet offsetSet windowStartSet windowEndSet joined rangesOf presentedWith presented takenFrom takenOf walked over targetOf upTo fromFlagged toDecode seek replyTo run lastOf ofBits ofInt div
 soundings-hold = record {
   A = refl;
   B = refl;
@@ -485,6 +533,9 @@ soundings-hold = record {
   U = refl;
   W = refl;
   X = refl;
+  Y = refl;
+  Z = refl;
+  Z-unled = refl;
 }
 
 -- Rows of numbers as offered frames: one that is a frame, then tracks, durations and a flag that no frame can have.

@@ -107,6 +107,7 @@ pub enum Refusal {
     Malformed, // a segment; this and what follows are of document 02
     LentSize, // what is lent has a size that the call does not take
     LargeFragment, // a movie fragment box over 65,536 bytes, in lumps
+    NoStart, // no frame covers the instant, or no random access point leads to the one that does
 }
 
 // The number that the table gives it.
@@ -128,6 +129,7 @@ pub fn refusal_number(why: Refusal) -> u32
         Refusal::Malformed => 12,
         Refusal::LentSize => 13,
         Refusal::LargeFragment => 14,
+        Refusal::NoStart => 15,
     }
 }
 
@@ -200,4 +202,15 @@ pub enum Accepted {
 pub struct Batched {
     pub answer: Accepted,
     pub head: Head,
+}
+
+// What a seek answers: the number of the frame that covers the instant, the number of the random access point from which to decode, and
+// how many frames to decode from that one to the first, both counted.
+pub enum Sought {
+    Found {
+        target: u32,
+        flagged: u32,
+        count: usize,
+    },
+    Refused(Refusal),
 }

@@ -10,7 +10,7 @@ use lib.Seq.{take-at, set-split, drop-append-add, drop-drop}
 use Rattle.buffer_state.specs.declared.Offered.{Offered}
 use Rattle.buffer_state.specs.Buffer.{Buffer}
 use Rattle.buffer_state.specs.Refusals.{Result, refused, done}
-use Rattle.buffer_state.specs.Run.{Call, appendCall, removeCall, abortCall, modeCall, offsetCall, windowStartCall, windowEndCall, readCall, rangesCall, commonCall, batchCall, walkedCall, Answer, Entry, replyTo, run, lastOf, linesIn, handedOut, acceptedIn, offeredBy, offers, total}
+use Rattle.buffer_state.specs.Run.{Call, appendCall, removeCall, abortCall, modeCall, offsetCall, windowStartCall, windowEndCall, readCall, rangesCall, commonCall, batchCall, walkedCall, seekCall, Answer, Entry, replyTo, run, lastOf, linesIn, handedOut, acceptedIn, offeredBy, offers, total}
 use Rattle.buffer_state.specs.Store.{Line}
 use Rattle.buffer_laws.proofs.CallLaws.{numbersAfter, total-ones}
 use Rattle.buffer_laws.proofs.RunLaws.{run-lawful}
@@ -106,6 +106,7 @@ framesIn (rangesCall lent track) = 0
 framesIn (commonCall lent) = 0
 framesIn (batchCall lent fs) = length fs
 framesIn (walkedCall lent track) = 0
+framesIn (seekCall track t) = 0
 
 take-few : {A : Type 0} (n : ℕ) (l : List A) → length (take n l) ≤ length l
 take-few n l = omega (arith, ap length (take-append-drop n l), length-append (take n l) (drop n l))
@@ -124,6 +125,7 @@ offered-few (rangesCall lent track) r = omega arith
 offered-few (commonCall lent) r = omega arith
 offered-few (batchCall lent fs) r = omega (arith, length-map (take (acceptedIn r) fs) (λ (f : Offered). f .track), take-few (acceptedIn r) fs)
 offered-few (walkedCall lent track) r = omega arith
+offered-few (seekCall track t) r = omega arith
 
 offers-few : (b : Buffer) (cs : List Call) → length (offers (run b cs)) ≤ total framesIn cs
 unfolding run offers total

@@ -93,6 +93,10 @@ reply-on : (c : Call) (b : Buffer) → goodBuffer b ≡ true → replyOn c (lent
 unfolding replyOn
 reply-on c b good = rw (laid-well-formed b good, held-back b)
 
+-- an answer's row, from the call's step
+abbrev pub numbersOf : Step → List ℕ
+numbersOf t = t .refusal ∷ t .count ∷ t .accepted ∷ t .stop ∷ t .target ∷ t .flagged ∷ []
+
 noted-few : (kind : ℕ) (doubles : List Float) → length (noted kind doubles) ≤ 1
 noted-few kind doubles = by-test (λ (l : List (List Float)). length l ≤ 1) (eqb kind 7) (λ _. omega arith) (λ _. omega arith)
 
@@ -175,11 +179,11 @@ module _ (rows : List (List ℕ)) (stamps : List (List ℤ)) (seconds : List (Li
       pub lines-room : at + ofLines (getD row 0 0) (getD row 4 0) ≤ length (after .lines)
       lines-room =
           let k : ofLines (getD row 0 0) (getD row 4 0) ≤ length (before .lines) - total offersOfRow (take i rows) =
-          leb-true _ _ (and-left _ _ (and-right (leb (getD row 0 0) 11) _ row-fits)) in
+          leb-true _ _ (and-left _ _ (and-right (leb (getD row 0 0) 12) _ row-fits)) in
           omega (arith, at-few, filled-inside (S .lines), S .lines .same)
 
       pub frames-room : firstFrame row + frameCount row ≤ length frames
-      frames-room = leb-true _ _ (and-right (leb (ofLines (getD row 0 0) (getD row 4 0)) _) _ (and-right (leb (getD row 0 0) 11) _ row-fits))
+      frames-room = leb-true _ _ (and-right (leb (ofLines (getD row 0 0) (getD row 4 0)) _) _ (and-right (leb (getD row 0 0) 12) _ row-fits))
 
       row-total : total rangesOfRow (take (suc i) rows) ≡ total rangesOfRow (take i rows) + rangesOfRow row
       row-total = rw er (total-next rangesOfRow rows i [] h)
@@ -215,7 +219,7 @@ module _ (rows : List (List ℕ)) (stamps : List (List ℤ)) (seconds : List (Li
 
         pub turn : (t : Step) (answers lines : List (List ℕ)) (spans : List (List ℤ)) (readings : List (List Float)) (ts : List (List ℤ)) (gs : List (List ℕ)) (at′ placed′ read′ : ℕ)
             → CalledAt (replyOn c s) t ts gs (after .lines) at lines (after .ranges) placed spans → length lines ≡ length (after .lines) → length spans ≡ length (after .ranges)
-            → answers ≡ set (after .answers) i (t .refusal ∷ t .count ∷ t .accepted ∷ t .stop ∷ [])
+            → answers ≡ set (after .answers) i (numbersOf t)
             → readings ≡ writtenAt (after .readings) read (noted (getD row 0 0) (t .doubles)) → length readings ≡ length (after .readings)
             → at′ ≡ at + ofLines (getD row 0 0) (t .count) → placed′ ≡ placed + ofRanges (getD row 0 0) (t .count) → read′ ≡ read + length (noted (getD row 0 0) (t .doubles))
             → Sofar (record { answers = answers; lines = lines; ranges = spans; readings = readings; times = ts; tags = gs }) (t .head) at′ placed′ read′ (suc i)
@@ -228,7 +232,7 @@ module _ (rows : List (List ℕ)) (stamps : List (List ℤ)) (seconds : List (Li
             let nlines : ofLines (getD row 0 0) (t .count) ≡ length (linesIn (e .result)) = ap (ofLines (getD row 0 0)) count ∙ shape .lines in
             let nranges : ofRanges (getD row 0 0) (t .count) ≡ length (rangesIn (e .result)) = ap (ofRanges (getD row 0 0)) count ∙ shape .ranges in
             let wrote : answers ≡ writtenAt (after .answers) i (answerOf e ∷ []) =
-            ea ∙ set-written (after .answers) i _ (omega (arith, S .answers .same, fit .answers)) ∙ ap (λ (x : Step). writtenAt (after .answers) i ((x .refusal ∷ x .count ∷ x .accepted ∷ x .stop ∷ []) ∷ [])) told in
+            ea ∙ set-written (after .answers) i _ (omega (arith, S .answers .same, fit .answers)) ∙ ap (λ (x : Step). writtenAt (after .answers) i (numbersOf x ∷ [])) told in
             record {
               inside = omega arith;
               state =

@@ -2,9 +2,9 @@
 use mathlib.Core.Path.{_≡_, refl, sym, ap, subst, _∙_}
 use mathlib.Core.Bool.{false}
 use mathlib.Core.List.{List, [], _++_, append-assoc}
-use Prim.Native.Nat.{ℕ, _+_, _≤_, _<_}
+use Prim.Native.Nat.{ℕ, _+_, _≤_}
 use native.Mathlib.Omega.{arith}
-use borrow.Author.Tests.{le-ltb, ltb-false, eqb-false}
+use borrow.Author.Tests.{le-ltb, ltb-false, eqb-false, ne-eqb}
 use borrow.Rule.Slice.PartMut.{midOf, putMid}
 use lib.Dec.{ltb, eqb}
 use lib.IntN.{ℤ}
@@ -22,9 +22,9 @@ use Rattle.call_rows.specs.Replies.{Replied, replyOn, rangesIn, Stepped, Quiet,
 use Rattle.call_rows.proofs.ReplyLaws.{walk-call}
 
 -- a row's call is lent as many places as its kind makes of what the row asks for; all but a walk, which is lent none
-call-lent : (row : List ℕ) (stamps : List ℤ) (seconds : List Float) (frames : List (List ℤ)) → getD row 0 0 < 11
+call-lent : (row : List ℕ) (stamps : List ℤ) (seconds : List Float) (frames : List (List ℤ)) → (getD row 0 0 ≡ 11 → ⊥)
     → callOf row stamps seconds frames (ofLines (getD row 0 0) (getD row 4 0)) (ofRanges (getD row 0 0) (getD row 4 0)) ≡ rowCall row stamps seconds frames
-call-lent row stamps seconds frames below =
+call-lent row stamps seconds frames other =
     split (ltb (getD row 0 0) 2) (λ a. rw a)
     (λ a. split (ltb (getD row 0 0) 7) (λ b. rw (a, b))
     (λ b. split (eqb (getD row 0 0) 7) (λ c. rw (a, b, c))
@@ -33,10 +33,7 @@ call-lent row stamps seconds frames below =
     let g : getD row 0 0 ≡ 7 → ⊥ = eqb-false (getD row 0 0) 7 c in
     let k : ltb (getD row 0 0) 8 ≡ false = le-ltb (getD row 0 0) 8 (omega (arith, g)) in
     split (ltb (getD row 0 0) 10) (λ d. rw (a, b, c, d, k))
-    (λ d.
-    let m : 10 ≤ getD row 0 0 = ltb-false (getD row 0 0) 10 d in
-    let e : getD row 0 0 ≡ 10 = omega arith in
-    rw e))))
+    (λ d. split (eqb (getD row 0 0) 10) (λ e. rw (a, b, c, d, e)) (λ e. rw (a, b, c, d, e, ne-eqb (getD row 0 0) 11 other))))))
 
 part-length : {A : Type 0} (xs : List A) (at k : ℕ) → at + k ≤ length xs → length (midOf at k xs) ≡ k
 part-length xs at k inside = length-take-le k (drop at xs) (omega (arith, length-drop at xs))
@@ -69,7 +66,7 @@ put-back r t ts gs lines₀ at n spans₀ placed m p q h l k =
     }
 
 module _ (row : List ℕ) (stamps : List ℤ) (seconds : List Float) (frames : List (List ℤ)) (first count : ℕ) (s : Lent) (t : Step) (ts : List (List ℤ)) (gs : List (List ℕ)) (lines₀ : List (List ℕ)) (at n : ℕ) (spans₀ : List (List ℤ)) (placed m : ℕ)
-    (below : getD row 0 0 < 11) (ef : first ≡ firstFrame row) (ec : count ≡ frameCount row) (en : n ≡ ofLines (getD row 0 0) (getD row 4 0)) (em : m ≡ ofRanges (getD row 0 0) (getD row 4 0))
+    (other : getD row 0 0 ≡ 11 → ⊥) (ef : first ≡ firstFrame row) (ec : count ≡ frameCount row) (en : n ≡ ofLines (getD row 0 0) (getD row 4 0)) (em : m ≡ ofRanges (getD row 0 0) (getD row 4 0))
     (hn : at + n ≤ length lines₀) (hm : placed + m ≤ length spans₀) where
   abbrev made : Call
   made = callOf row stamps seconds (take count (drop first frames)) (length (midOf at n lines₀)) (length (midOf placed m spans₀))
@@ -78,7 +75,7 @@ module _ (row : List ℕ) (stamps : List ℤ) (seconds : List Float) (frames : L
   meant = rowCall row stamps seconds (framesOfRow row frames)
 
   same-call : made ≡ meant
-  same-call = rw (part-length lines₀ at n hn, part-length spans₀ placed m hm, ef, ec, en, em) (call-lent row stamps seconds (framesOfRow row frames) below)
+  same-call = rw (part-length lines₀ at n hn, part-length spans₀ placed m hm, ef, ec, en, em) (call-lent row stamps seconds (framesOfRow row frames) other)
 
   pub called-at : (p : List (List ℕ)) (q : List (List ℤ))
       → Stepped (replyOn made s) t ts gs (midOf at n lines₀) p (midOf placed m spans₀) q
@@ -90,14 +87,14 @@ module _ (row : List ℕ) (stamps : List ℤ) (seconds : List Float) (frames : L
 
 -- a walk is told how many places its row names, and leaves the lists: no part of either is lent
 module _ (row : List ℕ) (stamps : List ℤ) (seconds : List Float) (frames : List (List ℤ)) (s : Lent) (t : Step) (lines₀ : List (List ℕ)) (at : ℕ) (spans₀ : List (List ℤ)) (placed room : ℕ)
-    (past : 11 ≤ getD row 0 0) (er : room ≡ getD row 4 0) where
+    (walk : getD row 0 0 ≡ 11) (er : room ≡ getD row 4 0) where
   abbrev meantWalk : Call
   meantWalk = rowCall row stamps seconds (framesOfRow row frames)
 
   same-walk : walkedCall room (getD row 1 0) ≡ meantWalk
   same-walk =
       ap (λ (n : ℕ). walkedCall n (getD row 1 0)) er
-      ∙ sym (walk-call row stamps seconds (framesOfRow row frames) (getD row 4 0) (getD row 4 0) (omega (arith, past)))
+      ∙ sym (walk-call row stamps seconds (framesOfRow row frames) (getD row 4 0) (getD row 4 0) walk)
 
   pub walked-at : Quiet (replyOn (walkedCall room (getD row 1 0)) s) t (s .times) (s .tags)
       → CalledAt (replyOn meantWalk s) t (s .times) (s .tags) lines₀ at lines₀ spans₀ placed spans₀

@@ -7,7 +7,7 @@ use Prim.Native.Nat.{ℕ, zero, suc, _≤_, _<_}
 use native.Mathlib.Omega.{arith}
 use borrow.Author.Tests.{lt-ltb, le-ltb, ltb-true, ltb-false, eqb-true, eqb-false, ne-eqb}
 use lib.Dec.{ltb, eqb}
-use lib.IntN.{ℤ}
+use lib.IntN.{ℤ, pos}
 use lib.Ieee.{Float, nan}
 use lib.ListN.{length, take, drop, getD, length-map}
 use Rattle.laws.proofs.BoolLaws.{split, by-test}
@@ -17,7 +17,8 @@ use Rattle.buffer_state.specs.Buffer.{Buffer, hasTrack}
 use Rattle.buffer_state.specs.Ranges.{Range, rangesOf, commonRangesOf, trackRanges, commonRanges}
 use Rattle.buffer_state.specs.Refusals.{Result, refused, done}
 use Rattle.buffer_state.specs.Remove.{remove}
-use Rattle.buffer_state.specs.Run.{Call, readCall, batchCall, walkedCall, Answer, byOutcome, bySetting, byRanges, byBatch, byWalked, replyTo, linesIn}
+use Rattle.buffer_state.specs.Run.{Call, readCall, batchCall, walkedCall, seekCall, Answer, byOutcome, bySetting, byRanges, byBatch, byWalked, bySeek, replyTo, linesIn}
+use Rattle.buffer_state.specs.Seek.{Start, seek}
 use Rattle.buffer_state.specs.Settings.{abort, offsetSet, windowStartSet, windowEndSet}
 use Rattle.buffer_state.specs.Walked.{walked}
 use Rattle.call_rows.specs.Encoded.{offeredOf, linesCall, settingCall, rangesCallOf, ofLines, ofRanges, rowCall}
@@ -48,11 +49,23 @@ module _ (kind places : ℕ) (b : Buffer) where
   batch-shape e (refused why) = rw e (record { lines = refl; ranges = refl; few = omega arith; readings = refl })
   batch-shape e (done r) = rw e (record { lines = refl; ranges = refl; few = omega arith; readings = refl })
 
-  walk-shape : 10 < kind → (x : Result ℕ) → Shape kind places (byWalked b x .result)
-  walk-shape h (refused why) =
-      record { lines = rw (le-ltb kind 2 (omega arith), ne-eqb kind 10 (λ e. omega arith)); ranges = rw (le-ltb kind 8 (omega arith), le-ltb kind 10 (omega arith)); few = omega arith; readings = rw (ne-eqb kind 7 (λ e. omega arith)) }
-  walk-shape h (done n) =
-      record { lines = rw (le-ltb kind 2 (omega arith), ne-eqb kind 10 (λ e. omega arith)); ranges = rw (le-ltb kind 8 (omega arith), le-ltb kind 10 (omega arith)); few = omega arith; readings = rw (ne-eqb kind 7 (λ e. omega arith)) }
+  -- a walk and a seek, whose answers have no list
+  module _ (h : 10 < kind) where
+    listless : (r : Result Answer) → linesIn r ≡ [] → rangesIn r ≡ [] → readingsIn r ≡ [] → Shape kind places r
+    listless r l s d = record {
+      lines = rw (l, le-ltb kind 2 (omega arith), ne-eqb kind 10 (λ e. omega arith));
+      ranges = rw (s, le-ltb kind 8 (omega arith), le-ltb kind 10 (omega arith));
+      few = rw s (omega arith);
+      readings = rw (d, ne-eqb kind 7 (λ e. omega arith));
+    }
+
+    walk-shape : (x : Result ℕ) → Shape kind places (byWalked b x .result)
+    walk-shape (refused why) = listless (refused why) refl refl refl
+    walk-shape (done n) = listless (byWalked b (done n) .result) refl refl refl
+
+    seek-shape : (x : Result Start) → Shape kind places (bySeek b x .result)
+    seek-shape (refused why) = listless (refused why) refl refl refl
+    seek-shape (done s) = listless (bySeek b (done s) .result) refl refl refl
 
   module _ (h : 8 ≤ kind) (k : kind < 10) where
     ranges-shape : (x : Result (List Range)) → length (rangesIn (byRanges b x .result)) ≤ places → Shape kind places (byRanges b x .result)
@@ -120,6 +133,10 @@ module _ (row : List ℕ) (stamps : List ℤ) (seconds : List Float) (frames : L
   unfolding replyTo
   walks-shape h = walk-shape kind places b h (walked places (getD row 1 0) b)
 
+  seeks-shape : 10 < kind → Shaped (seekCall (getD row 1 0) (getD stamps 0 (pos 0)))
+  unfolding replyTo
+  seeks-shape h = seek-shape kind places b h (seek (getD row 1 0) (getD stamps 0 (pos 0)) b)
+
   pub row-shape : Shaped (rowCall row stamps seconds frames)
   row-shape =
       split (ltb kind 2) (λ e. rw e (lines-shape (ltb-true kind 2 e)))
@@ -133,7 +150,7 @@ module _ (row : List ℕ) (stamps : List ℤ) (seconds : List Float) (frames : L
       (λ o.
       let p : 10 ≤ kind = ltb-false kind 10 m in
       let q : kind ≡ 10 → ⊥ = eqb-false kind 10 o in
-      rw (e, f, g, m, o) (walks-shape (omega (arith, q))))))))
+      split (eqb kind 11) (λ w. rw (e, f, g, m, o, w) (walks-shape (omega (arith, q)))) (λ w. rw (e, f, g, m, o, w) (seeks-shape (omega (arith, q)))))))))
 
 -- ---- what a row's call offers
 
@@ -166,4 +183,4 @@ row-offers row stamps seconds frames =
     let h : kind ≡ 10 = eqb-true kind 10 e in
     let asked : offersOfRow row ≡ frameCount row = rw (ne-eqb kind 0 (λ z. omega arith)) in
     omega (arith, asked, length-map own offeredIn, take-most (frameCount row) (drop (firstFrame row) frames)))
-    (λ _. omega arith)))))
+    (λ _. by-test Few (eqb kind 11) (λ _. omega arith) (λ _. omega arith))))))

@@ -11,7 +11,7 @@ use Rattle.buffer_state.specs.Answers.{written, laid, zeroHead}
 use Rattle.buffer_state.specs.Buffer.{Buffer, fresh}
 use Rattle.buffer_state.specs.Lent.{Lent, lentOf, bufferIn}
 use Rattle.buffer_state.specs.Refusals.{Result, refused, done}
-use Rattle.buffer_state.specs.Run.{Call, Answer, ok, fates, settings, ranges, accepted, taken, Entry, run, lastOf, handedOut, acceptedIn, total}
+use Rattle.buffer_state.specs.Run.{Call, Answer, ok, fates, settings, ranges, accepted, taken, decoding, Entry, run, lastOf, handedOut, acceptedIn, total}
 use Rattle.buffer_state.specs.Settings.{create}
 use Rattle.buffer_state.specs.WellFormed.{goodBuffer}
 use Rattle.account.specs.History.{Account}
@@ -19,7 +19,7 @@ use Rattle.call_list.specs.declared.Ending as End
 use Rattle.call_list.specs.declared.Ending.the-variants.{Done, Unfit, Refused}
 use Rattle.call_list.specs.declared.Ran.{Ran}
 use Rattle.call_rows.specs.Encoded.{ofLines, ofRanges, rowCall}
-use Rattle.call_rows.specs.Replies.{lent, numberOf, sizeOf, stopIn, doublesIn, rangesIn}
+use Rattle.call_rows.specs.Replies.{lent, numberOf, sizeOf, stopIn, targetIn, flaggedIn, doublesIn, rangesIn}
 
 -- ---- the calls
 
@@ -50,10 +50,12 @@ encodedCalls rows stamps seconds frames = firstCalls rows stamps seconds frames 
 
 -- ---- what the lists hold
 
--- a call's answer: its refusal number or 0; how many lines, ranges or doubles, or frames that a walk took; of a batch, how many frames
--- were accepted, and the number of the refusal that stopped it or 0
+-- a call's answer: its refusal number or 0; how many lines, ranges or doubles, or frames that a walk took or that a seek has to decode;
+-- of a batch, how many frames were accepted, and the number of the refusal that stopped it or 0; of a seek, the numbers of its target and
+-- of the flagged frame from which to decode
 abbrev pub answerOf : Entry → List ℕ
-answerOf e = numberOf (e .result) ∷ sizeOf (e .result) ∷ acceptedIn (e .result) ∷ stopIn (e .result) ∷ []
+answerOf e =
+    numberOf (e .result) ∷ sizeOf (e .result) ∷ acceptedIn (e .result) ∷ stopIn (e .result) ∷ targetIn (e .result) ∷ flaggedIn (e .result) ∷ []
 
 -- the doubles of a reading: offset, window start, window end
 abbrev pub readingsIn : Result Answer → List (List Float)
@@ -64,6 +66,7 @@ readingsIn (done (settings r)) = doublesIn (done (settings r)) ∷ []
 readingsIn (done (ranges rs)) = []
 readingsIn (done (accepted n stop ls)) = []
 readingsIn (done (taken n)) = []
+readingsIn (done (decoding s)) = []
 
 -- what all results have of one sort, in order
 unfoldable pub allOut : {A : Type 0} → (Result Answer → List A) → List Entry → List A
@@ -108,10 +111,10 @@ pub record Replayed (b : Buffer) (cs : List Call) (r : Ran) (before after : List
 
 -- ---- when there is a run
 
--- a kind from 0 to 11, room for the call's lines, and a batch's frames inside the list of frames
+-- a kind from 0 to 12, room for the call's lines, and a batch's frames inside the list of frames
 abbrev pub rowFits : ℕ → ℕ → List ℕ → Bool
 rowFits frames room row =
-    leb (getD row 0 0) 11 && (leb (ofLines (getD row 0 0) (getD row 4 0)) room && leb (firstFrame row + frameCount row) frames)
+    leb (getD row 0 0) 12 && (leb (ofLines (getD row 0 0) (getD row 4 0)) room && leb (firstFrame row + frameCount row) frames)
 
 -- the frames that a row offers
 abbrev pub offersOfRow : List ℕ → ℕ

@@ -8,6 +8,7 @@ use call_rows::ABORT;
 use call_rows::APPEND;
 use call_rows::BATCH;
 use call_rows::READ;
+use call_rows::SEEK;
 use call_rows::Step;
 use call_rows::TRACK_RANGES;
 use call_rows::WALKED;
@@ -102,7 +103,7 @@ fn call_at(
 {
     let kind = row[0];
     let places = wide(row[4]);
-    if WALKED <= kind {
+    if kind == WALKED {
         return call_rows::walked_step(h, row[1], times, tags, places);
     }
     let to = at + of_lines(kind, places);
@@ -142,7 +143,7 @@ fn run_from(
     stamps: &[[i64; 2]],
     seconds: &[[f64; 2]],
     frames: &[[i64; 6]],
-    answers: &mut [[usize; 4]],
+    answers: &mut [[usize; 6]],
     lines: &mut [[u32; 2]],
     list: &mut [[i64; 2]],
     readings: &mut [[f64; 3]],
@@ -178,7 +179,7 @@ fn run_from(
             placed,
         );
         let count = t.count;
-        answers[i] = [t.refusal, count, t.accepted, t.stop];
+        answers[i] = [t.refusal, count, t.accepted, t.stop, t.target, t.flagged];
         let doubles = t.doubles;
         read = note_reading(kind, doubles, readings, read);
         at += of_lines(kind, count);
@@ -218,7 +219,7 @@ fn row_fits(row: [u32; 5], frames: usize, room: usize) -> bool
 {
     let kind = row[0];
     let asked = of_lines(kind, wide(row[4]));
-    (kind <= WALKED) & ((asked <= room) & inside(first_frame(row), frame_count(row), frames))
+    (kind <= SEEK) & ((asked <= room) & inside(first_frame(row), frame_count(row), frames))
 }
 
 fn offers_of_row(row: [u32; 5]) -> usize
@@ -325,7 +326,7 @@ pub fn run(
     stamps: &[[i64; 2]],
     seconds: &[[f64; 2]],
     frames: &[[i64; 6]],
-    answers: &mut [[usize; 4]],
+    answers: &mut [[usize; 6]],
     lines: &mut [[u32; 2]],
     list: &mut [[i64; 2]],
     readings: &mut [[f64; 3]],

@@ -4,7 +4,7 @@ use mathlib.Core.Bool.{Bool, true, false}
 use mathlib.Core.List.{List, [], _∷_, map}
 use Prim.Native.Nat.{ℕ, _≤_, _<_}
 use native.Mathlib.Omega.{arith}
-use lib.IntN.{ℤ}
+use lib.IntN.{ℤ, pos}
 use lib.Ieee.{Float, nan}
 use lib.ListN.{length, getD}
 use borrow.Author.Tests.{lt-ltb, le-ltb, eq-eqb, ne-eqb}
@@ -14,13 +14,15 @@ use Rattle.buffer_state.specs.declared.Batched.{Batched}
 use Rattle.buffer_state.specs.declared.Changed.{Changed}
 use Rattle.buffer_state.specs.declared.Count.{Count}
 use Rattle.buffer_state.specs.declared.Counted.{Counted}
+use Rattle.buffer_state.specs.declared.Head.{Head}
 use Rattle.buffer_state.specs.declared.Mode.{Mode}
 use Rattle.buffer_state.specs.declared.Offered.{Offered}
 use Rattle.buffer_state.specs.declared.Read.{Read}
 use Rattle.buffer_state.specs.declared.Refusal.the-variants.{IllFormed}
+use Rattle.buffer_state.specs.declared.Sought.{Sought}
 use Rattle.buffer_state.specs.declared.WindowEnd.{WindowEnd}
 use Rattle.buffer_state.specs.declared.WindowEnd.the-variants.{Unbounded, At}
-use Rattle.buffer_state.specs.Answers.{changed, abortAnswer, modeAnswer, offsetAnswer, windowStartAnswer, windowEndAnswer, readWith, read, settingsAnswer, counted, timesAfter, tagsAfter, listAfter, appendResult, removeResult, batched, outcomeOf, batchResult, rangeCount, rangesAfter, trackRangesResult, commonRangesResult, takenCount, walkedResult}
+use Rattle.buffer_state.specs.Answers.{changed, abortAnswer, modeAnswer, offsetAnswer, windowStartAnswer, windowEndAnswer, readWith, read, settingsAnswer, counted, timesAfter, tagsAfter, listAfter, appendResult, removeResult, batched, outcomeOf, batchResult, rangeCount, rangesAfter, trackRangesResult, commonRangesResult, takenCount, walkedResult, sought, seekResult}
 use Rattle.buffer_state.specs.Append.{Outcome, append}
 use Rattle.buffer_state.specs.Batch.{offeredIn, Batch, batch}
 use Rattle.buffer_state.specs.Buffer.{Buffer, withFrames}
@@ -28,7 +30,8 @@ use Rattle.buffer_state.specs.Lent.{Lent, timesIn, tagsIn, lentOf, bufferIn, we
 use Rattle.buffer_state.specs.Ranges.{Range, trackRanges, commonRanges}
 use Rattle.buffer_state.specs.Refusals.{Result, refused, done, refusalNumber}
 use Rattle.buffer_state.specs.Remove.{remove}
-use Rattle.buffer_state.specs.Run.{Call, appendCall, removeCall, abortCall, modeCall, offsetCall, windowStartCall, windowEndCall, readCall, rangesCall, commonCall, batchCall, walkedCall, settings, ranges, byOutcome, bySetting, byRanges, byBatch, byWalked, replyTo}
+use Rattle.buffer_state.specs.Run.{Call, appendCall, removeCall, abortCall, modeCall, offsetCall, windowStartCall, windowEndCall, readCall, rangesCall, commonCall, batchCall, walkedCall, seekCall, settings, ranges, byOutcome, bySetting, byRanges, byBatch, byWalked, bySeek, replyTo}
+use Rattle.buffer_state.specs.Seek.{Start, seek}
 use Rattle.buffer_state.specs.Settings.{abort, modeSet, offsetSet, windowStartSet, windowEndSet, Reading, reading}
 use Rattle.buffer_state.specs.Walked.{walked}
 use Rattle.buffer_laws.proofs.AnswerLaws.{Leaves, LeavesBatch}
@@ -37,7 +40,7 @@ use Rattle.buffer_laws.proofs.SettingLaws.{IfDone, Set, abort-set, mode-good, m
 use Rattle.ranges.specs.Bars.{Reported}
 use Rattle.call_rows.specs.declared.Step.{Step}
 use Rattle.call_rows.specs.Encoded.{modeOf, offeredOf, linesCall, settingCall, rangesCallOf, callOf}
-use Rattle.call_rows.specs.Replies.{Replied, laidReply, replyOn, Stepped, Lined, Spanned, Quiet, stepWith, plainStep, changeStep, countStep, readStep, acceptedStep}
+use Rattle.call_rows.specs.Replies.{Replied, laidReply, replyOn, Stepped, Lined, Spanned, Quiet, stepWith, plainStep, changeStep, countStep, readStep, acceptedStep, soughtStep}
 
 -- the test, and a call, on a state between calls
 abbrev formed : Lent → Bool
@@ -136,35 +139,57 @@ module _ (s : Lent) (lent : List (List ℤ)) where
   unfolding commonRangesResult replyTo
   common-reply n = spanned-reply (commonCall n) (commonRanges n) (λ b. refl)
 
--- ---- a walk
+-- ---- a call that is lent no list
+
+-- from what it comes to on the buffer that the state holds, and what it tells after refusal 1
+module _ (s : Lent) {A : Type 0} (told : Result A → Head → Step) where
+  abbrev QuietBy : Result A → Replied → Type 0
+  QuietBy x r = Quiet r (told x (s .head)) (s .times) (s .tags)
+
+  quiet-reply : (c : Call) (call : Buffer → Result A) → (formed s ≡ true → QuietBy (call (bufferIn s)) (laidReply (replyTo c (bufferIn s))))
+      → told (refused IllFormed) (s .head) ≡ plainStep (refusalNumber IllFormed) 0 (s .head) → QuietBy (on call s) (replyOn c s)
+  quiet-reply c call held ill =
+      on-reply (QuietBy (on call s)) c s
+      (λ w. rw (on-well-formed call (s .head) (s .times) (s .tags) w) (held w))
+      (λ w. rw (ill-formed-refused call (s .head) (s .times) (s .tags) w) (λ ls rs. record { step = ill; times = refl; tags = refl; fates = refl; ranges = refl }))
+
+-- ---- a walk and a seek
 
 module _ (s : Lent) where
-  abbrev WalkedBy : Result ℕ → Replied → Type 0
-  WalkedBy x r = Quiet r (countStep (takenCount x) (s .head)) (s .times) (s .tags)
+  abbrev walkStep : Result ℕ → Head → Step
+  walkStep x h = countStep (takenCount x) h
 
-  walked-of : formed s ≡ true → (x : Result ℕ) → WalkedBy x (laidReply (byWalked (bufferIn s) x))
+  walked-of : formed s ≡ true → (x : Result ℕ) → QuietBy s walkStep x (laidReply (byWalked (bufferIn s) x))
   walked-of w (refused why) ls rs = record { step = ap (plainStep (refusalNumber why) 0) (left-head s w); times = left-times s w; tags = left-tags s w; fates = refl; ranges = refl }
   walked-of w (done n) ls rs = record { step = ap (plainStep 0 n) (left-head s w); times = left-times s w; tags = left-tags s w; fates = refl; ranges = refl }
 
-  walked-reply : (room track : ℕ) → WalkedBy (walkedResult room track (s .head) (s .times) (s .tags)) (replyOn (walkedCall room track) s)
-  unfolding walkedResult replyTo
-  walked-reply room track =
-      on-reply (WalkedBy (on (walked room track) s)) (walkedCall room track) s
-      (λ w. rw (on-well-formed (walked room track) (s .head) (s .times) (s .tags) w) (walked-of w (walked room track (bufferIn s))))
-      (λ w. rw (ill-formed-refused (walked room track) (s .head) (s .times) (s .tags) w) (λ ls rs. record { step = refl; times = refl; tags = refl; fates = refl; ranges = refl }))
-
   pub walked-quiet : (room track : ℕ) (r : Count) (t : Step) → t ≡ countStep r (s .head) → r ≡ takenCount (walkedResult room track (s .head) (s .times) (s .tags))
       → Quiet (replyOn (walkedCall room track) s) t (s .times) (s .tags)
-  walked-quiet room track r t told h = rw (told, h) (walked-reply room track)
+  unfolding walkedResult replyTo
+  walked-quiet room track r t told h =
+      rw (told, h) (quiet-reply s walkStep (walkedCall room track) (walked room track) (λ w. walked-of w (walked room track (bufferIn s))) refl)
+
+  abbrev seekStep : Result Start → Head → Step
+  seekStep x h = soughtStep (sought x) h
+
+  sought-of : formed s ≡ true → (x : Result Start) → QuietBy s seekStep x (laidReply (bySeek (bufferIn s) x))
+  sought-of w (refused why) ls rs = record { step = ap (plainStep (refusalNumber why) 0) (left-head s w); times = left-times s w; tags = left-tags s w; fates = refl; ranges = refl }
+  sought-of w (done x) ls rs = record { step = ap (seekStep (done x)) (left-head s w); times = left-times s w; tags = left-tags s w; fates = refl; ranges = refl }
+
+  pub seek-quiet : (track : ℕ) (z : ℤ) (r : Sought) (t : Step) → t ≡ soughtStep r (s .head) → r ≡ sought (seekResult track z (s .head) (s .times) (s .tags))
+      → Quiet (replyOn (seekCall track z) s) t (s .times) (s .tags)
+  unfolding seekResult replyTo
+  seek-quiet track z r t told h =
+      rw (told, h) (quiet-reply s seekStep (seekCall track z) (seek track z) (λ w. sought-of w (seek track z (bufferIn s))) refl)
 
 -- ---- abort, the setters and a reading
 
 module _ (s : Lent) where
-  abbrev ChangedBy : Result Buffer → Replied → Type 0
-  ChangedBy x r = Quiet r (changeStep (changed (s .head) x .answer) (changed (s .head) x .head)) (s .times) (s .tags)
+  abbrev settleStep : Result Buffer → Head → Step
+  settleStep x h = changeStep (changed h x .answer) (changed h x .head)
 
   -- they touch no frame
-  changed-of : formed s ≡ true → (x : Result Buffer) → IfDone (Set (bufferIn s)) x → ChangedBy x (laidReply (bySetting (bufferIn s) x))
+  changed-of : formed s ≡ true → (x : Result Buffer) → IfDone (Set (bufferIn s)) x → QuietBy s settleStep x (laidReply (bySetting (bufferIn s) x))
   changed-of w (refused why) k ls rs = record { step = ap (plainStep (refusalNumber why) 0) (left-head s w); times = left-times s w; tags = left-tags s w; fates = refl; ranges = refl }
   changed-of w (done b) k ls rs =
       let e = sym (k .untouched .frames) in
@@ -177,11 +202,8 @@ module _ (s : Lent) where
       }
 
   changed-reply : (c : Call) (call : Buffer → Result Buffer) → ((b : Buffer) → replyTo c b ≡ bySetting b (call b)) → ((b : Buffer) → IfDone (Set b) (call b))
-      → ChangedBy (on call s) (replyOn c s)
-  changed-reply c call e k =
-      on-reply (ChangedBy (on call s)) c s
-      (λ w. rw (on-well-formed call (s .head) (s .times) (s .tags) w, e (bufferIn s)) (changed-of w (call (bufferIn s)) (k (bufferIn s))))
-      (λ w. rw (ill-formed-refused call (s .head) (s .times) (s .tags) w) (λ ls rs. record { step = refl; times = refl; tags = refl; fates = refl; ranges = refl }))
+      → QuietBy s settleStep (on call s) (replyOn c s)
+  changed-reply c call e k = quiet-reply s settleStep c call (λ w. rw (e (bufferIn s)) (changed-of w (call (bufferIn s)) (k (bufferIn s)))) refl
 
   read-of : formed s ≡ true → (offset start : Float) (e : WindowEnd)
       → Quiet (laidReply (record { result = done (settings (record { offset = offset; start = start; end = e })); after = bufferIn s })) (readStep (readWith offset start e) (s .head)) (s .times) (s .tags)
@@ -193,10 +215,8 @@ module _ (s : Lent) where
   pub read-reply : Quiet (replyOn readCall s) (readStep (settingsAnswer (s .head) (s .times) (s .tags)) (s .head)) (s .times) (s .tags)
   unfolding settingsAnswer replyTo
   read-reply =
-      let call : Buffer → Result Reading = λ b. done (reading b) in
-      on-reply (λ r. Quiet r (readStep (read (on call s)) (s .head)) (s .times) (s .tags)) readCall s
-      (λ w. rw (on-well-formed call (s .head) (s .times) (s .tags) w) (read-of w _ _ (s .head .settings .end)))
-      (λ w. rw (ill-formed-refused call (s .head) (s .times) (s .tags) w) (λ ls rs. record { step = refl; times = refl; tags = refl; fates = refl; ranges = refl }))
+      let told : Result Reading → Head → Step = λ x h. readStep (read x) h in
+      quiet-reply s told readCall (λ b. done (reading b)) (λ w. read-of w _ _ (s .head .settings .end)) refl
 
 -- ---- by the kind of call
 
@@ -259,12 +279,22 @@ module _ (s : Lent) (flag : ℕ) (x : Float) (r : Changed) where
 
 -- ---- any call
 
--- a kind above that of a batch is a walk
-pub walk-call : (row : List ℕ) (stamps : List ℤ) (seconds : List Float) (frames : List (List ℤ)) (lines places : ℕ) → 10 < getD row 0 0
-    → callOf row stamps seconds frames lines places ≡ walkedCall places (getD row 1 0)
-walk-call row stamps seconds frames lines places k =
-    let kind = getD row 0 0 in
-    rw (le-ltb kind 2 (omega arith), le-ltb kind 7 (omega arith), ne-eqb kind 7 (λ e. omega arith), le-ltb kind 10 (omega arith), ne-eqb kind 10 (λ e. omega arith))
+module _ (row : List ℕ) (stamps : List ℤ) (seconds : List Float) (frames : List (List ℤ)) (lines places : ℕ) where
+  pub walk-call : getD row 0 0 ≡ 11 → callOf row stamps seconds frames lines places ≡ walkedCall places (getD row 1 0)
+  walk-call k = rw k
+
+  -- a kind above that of a walk is a seek
+  pub seek-call : 11 < getD row 0 0 → callOf row stamps seconds frames lines places ≡ seekCall (getD row 1 0) (getD stamps 0 (pos 0))
+  seek-call k =
+      let kind = getD row 0 0 in
+      rw (
+        le-ltb kind 2 (omega arith),
+        le-ltb kind 7 (omega arith),
+        ne-eqb kind 7 (λ e. omega arith),
+        le-ltb kind 10 (omega arith),
+        ne-eqb kind 10 (λ e. omega arith),
+        ne-eqb kind 11 (λ e. omega arith),
+      )
 
 module _ (s : Lent) (row : List ℕ) (stamps : List ℤ) (seconds : List Float) (frames : List (List ℤ)) (lines₀ lines : List (List ℕ)) (spans₀ spans : List (List ℤ)) where
   abbrev kind : ℕ
@@ -294,6 +324,10 @@ module _ (s : Lent) (row : List ℕ) (stamps : List ℤ) (seconds : List Float) 
       → Lined (replyOn (batchCall (length lines₀) (map offeredIn frames)) s) t ts gs lines₀ lines → Makes t ts gs lines spans₀
   made-batch t ts gs k h = rw k (h spans₀)
 
-  pub made-walk : (t : Step) → 10 ≤ kind → (kind ≡ 10 → ⊥)
+  pub made-walk : (t : Step) → kind ≡ 11
       → Quiet (replyOn (walkedCall (length spans₀) (getD row 1 0)) s) t (s .times) (s .tags) → Makes t (s .times) (s .tags) lines₀ spans₀
-  made-walk t k l h = rw (walk-call row stamps seconds frames (length lines₀) (length spans₀) (omega (arith, l))) (h lines₀ spans₀)
+  made-walk t k h = rw (walk-call row stamps seconds frames (length lines₀) (length spans₀) k) (h lines₀ spans₀)
+
+  pub made-seek : (t : Step) → 10 ≤ kind → (kind ≡ 10 → ⊥) → (kind ≡ 11 → ⊥)
+      → Quiet (replyOn (seekCall (getD row 1 0) (getD stamps 0 (pos 0))) s) t (s .times) (s .tags) → Makes t (s .times) (s .tags) lines₀ spans₀
+  made-seek t k l m h = rw (seek-call row stamps seconds frames (length lines₀) (length spans₀) (omega (arith, l, m))) (h lines₀ spans₀)

@@ -11,7 +11,7 @@ use Rattle.buffer_state.specs.declared.Mode.{Mode}
 use Rattle.buffer_state.specs.declared.Mode.the-variants.{Segments, Sequence}
 use Rattle.buffer_state.specs.declared.Offered.{Offered}
 use Rattle.buffer_state.specs.Batch.{offeredIn}
-use Rattle.buffer_state.specs.Run.{Call, appendCall, removeCall, abortCall, modeCall, offsetCall, windowStartCall, windowEndCall, readCall, rangesCall, commonCall, batchCall, walkedCall}
+use Rattle.buffer_state.specs.Run.{Call, appendCall, removeCall, abortCall, modeCall, offsetCall, windowStartCall, windowEndCall, readCall, rangesCall, commonCall, batchCall, walkedCall, seekCall}
 
 abbrev pub flagOf : ℕ → Bool
 flagOf n = not (eqb n 0)
@@ -47,7 +47,8 @@ abbrev pub rangesCallOf : List ℕ → ℕ → Call
 rangesCallOf row lent = cond (eqb (getD row 0 0) 8) (rangesCall lent (getD row 1 0)) (commonCall lent)
 
 -- 7 reading the settings; 10 a batch, which is lent a fate list; 11 how many frames the walk of a track's ranges takes, with the places of
--- the range list, which it leaves. A kind above 11 is taken for 11 by a single call; a list that has one is not run (Listed.antt).
+-- the range list, which it leaves; 12 where to start decoding for a track and the first of the two times. A kind above 12 is taken for 12
+-- by a single call; a list that has one is not run (Listed.antt).
 abbrev pub callOf : List ℕ → List ℤ → List Float → List (List ℤ) → ℕ → ℕ → Call
 callOf row times seconds frames lines ranges =
     let kind = getD row 0 0 in
@@ -56,11 +57,13 @@ callOf row times seconds frames lines ranges =
     (cond (eqb kind 7) readCall
     (cond (ltb kind 10) (rangesCallOf row ranges)
     (cond (eqb kind 10) (batchCall lines (map offeredIn frames))
-    (walkedCall ranges (getD row 1 0))))))
+    (cond (eqb kind 11) (walkedCall ranges (getD row 1 0))
+    (seekCall (getD row 1 0) (getD times 0 (pos 0))))))))
 
 -- ---- places lent
 
--- of a number that a call of this kind asks for or gives, how much is fate lines and how much is ranges; a walk's is neither
+-- of a number that a call of this kind asks for or gives, how much is fate lines and how much is ranges; a walk's and
+-- a seek's is neither
 abbrev pub ofLines : ℕ → ℕ → ℕ
 ofLines kind n = cond (ltb kind 2) n (cond (eqb kind 10) n 0)
 

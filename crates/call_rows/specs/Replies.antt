@@ -17,13 +17,15 @@ use Rattle.buffer_state.specs.declared.Head.{Head}
 use Rattle.buffer_state.specs.declared.Read.{Read}
 use Rattle.buffer_state.specs.declared.Read.the-variants as Read
 use Rattle.buffer_state.specs.declared.Refusal.the-variants.{IllFormed}
+use Rattle.buffer_state.specs.declared.Sought.{Sought}
+use Rattle.buffer_state.specs.declared.Sought.the-variants as Sought
 use Rattle.buffer_state.specs.declared.WindowEnd.{WindowEnd}
 use Rattle.buffer_state.specs.declared.WindowEnd.the-variants.{Unbounded, At}
 use Rattle.buffer_state.specs.Answers.{written, laid}
 use Rattle.buffer_state.specs.Lent.{Lent, lentOf, bufferIn, wellFormedAt}
 use Rattle.buffer_state.specs.Ranges.{Range}
 use Rattle.buffer_state.specs.Refusals.{Result, refused, done, refusalNumber, stopNumber}
-use Rattle.buffer_state.specs.Run.{Call, Answer, ok, fates, settings, ranges, accepted, taken, Reply, replyTo, linesIn, acceptedIn}
+use Rattle.buffer_state.specs.Run.{Call, Answer, ok, fates, settings, ranges, accepted, taken, decoding, Reply, replyTo, linesIn, acceptedIn}
 use Rattle.call_rows.specs.declared.Step.{Step}
 
 abbrev pub lent : Head → List (List ℤ) → List (List ℕ) → Lent
@@ -58,7 +60,8 @@ abbrev pub doublesWith : WindowEnd → ℕ
 doublesWith Unbounded = 2
 doublesWith (At x) = 3
 
--- how many lines or ranges it has; of a reading, how many doubles: 2 where there is no window end; of a walk, how many frames it took
+-- how many lines or ranges it has; of a reading, how many doubles: 2 where there is no window end; of a walk, how many frames it took;
+-- of a seek, how many there are to decode
 abbrev pub sizeOf : Result Answer → ℕ
 sizeOf (refused why) = 0
 sizeOf (done ok) = 0
@@ -67,6 +70,7 @@ sizeOf (done (settings r)) = doublesWith (r .end)
 sizeOf (done (ranges rs)) = length rs
 sizeOf (done (accepted n stop ls)) = length ls
 sizeOf (done (taken n)) = n
+sizeOf (done (decoding s)) = s .count
 
 -- what stopped a batch, as its number
 abbrev pub stopIn : Result Answer → ℕ
@@ -77,6 +81,28 @@ stopIn (done (settings r)) = 0
 stopIn (done (ranges rs)) = 0
 stopIn (done (accepted n stop ls)) = stopNumber stop
 stopIn (done (taken n)) = 0
+stopIn (done (decoding s)) = 0
+
+-- the numbers of a seek's target and of the flagged frame from which to decode
+abbrev pub targetIn : Result Answer → ℕ
+targetIn (refused why) = 0
+targetIn (done ok) = 0
+targetIn (done (fates ls)) = 0
+targetIn (done (settings r)) = 0
+targetIn (done (ranges rs)) = 0
+targetIn (done (accepted n stop ls)) = 0
+targetIn (done (taken n)) = 0
+targetIn (done (decoding s)) = s .target
+
+abbrev pub flaggedIn : Result Answer → ℕ
+flaggedIn (refused why) = 0
+flaggedIn (done ok) = 0
+flaggedIn (done (fates ls)) = 0
+flaggedIn (done (settings r)) = 0
+flaggedIn (done (ranges rs)) = 0
+flaggedIn (done (accepted n stop ls)) = 0
+flaggedIn (done (taken n)) = 0
+flaggedIn (done (decoding s)) = s .flagged
 
 abbrev pub noDoubles : List Float
 noDoubles = zeroSeconds ∷ zeroSeconds ∷ zeroSeconds ∷ []
@@ -90,6 +116,7 @@ doublesIn (done (settings r)) = r .offset ∷ r .start ∷ endOf (r .end) ∷ []
 doublesIn (done (ranges rs)) = noDoubles
 doublesIn (done (accepted n stop ls)) = noDoubles
 doublesIn (done (taken n)) = noDoubles
+doublesIn (done (decoding s)) = noDoubles
 
 abbrev pub stepOf : Replied → Step
 stepOf r = record {
@@ -97,6 +124,8 @@ stepOf r = record {
   count = sizeOf (r .result);
   accepted = acceptedIn (r .result);
   stop = stopIn (r .result);
+  target = targetIn (r .result);
+  flagged = flaggedIn (r .result);
   doubles = doublesIn (r .result);
   head = r .after .head;
 }
@@ -111,6 +140,7 @@ rangesIn (done (settings r)) = []
 rangesIn (done (ranges rs)) = rs
 rangesIn (done (accepted n stop ls)) = []
 rangesIn (done (taken n)) = []
+rangesIn (done (decoding s)) = []
 
 -- its lines, then what the list held before
 abbrev pub fatesAfter : Result Answer → List (List ℕ) → List (List ℕ)
@@ -153,9 +183,9 @@ pub record CalledAt (r : Replied) (t : Step) (ts : List (List ℤ)) (gs lines₀
 
 -- ---- the same from the code's answers
 
--- of a call that is no batch, its doubles given
+-- of a call that is no batch and no seek, its doubles given: what only these tell is 0
 abbrev pub stepWith : ℕ → ℕ → List Float → Head → Step
-stepWith refusal count doubles h = record { refusal = refusal; count = count; accepted = 0; stop = 0; doubles = doubles; head = h }
+stepWith refusal count doubles h = record { refusal = refusal; count = count; accepted = 0; stop = 0; target = 0; flagged = 0; doubles = doubles; head = h }
 
 abbrev pub plainStep : ℕ → ℕ → Head → Step
 plainStep refusal count h = stepWith refusal count noDoubles h
@@ -173,6 +203,20 @@ readStep (Read.Bounded offset start end) h = stepWith 0 3 (offset ∷ start ∷ 
 readStep (Read.Unbounded offset start) h = stepWith 0 2 (offset ∷ start ∷ zeroSeconds ∷ []) h
 readStep (Read.Refused why) h = plainStep (refusalNumber why) 0 h
 
+-- what a batch tells beside a count
+abbrev pub withAccepted : ℕ → ℕ → Step → Step
+withAccepted n stop t =
+    record { refusal = t .refusal; count = t .count; accepted = n; stop = stop; target = t .target; flagged = t .flagged; doubles = t .doubles; head = t .head }
+
 abbrev pub acceptedStep : Accepted → Head → Step
-acceptedStep (Accepted.Done n lines stop) h = record { refusal = 0; count = lines; accepted = n; stop = stopNumber stop; doubles = noDoubles; head = h }
+acceptedStep (Accepted.Done n lines stop) h = withAccepted n (stopNumber stop) (plainStep 0 lines h)
 acceptedStep (Accepted.Refused why) h = plainStep (refusalNumber why) 0 h
+
+-- what a seek tells beside a count
+abbrev pub withStart : ℕ → ℕ → Step → Step
+withStart target flagged t =
+    record { refusal = t .refusal; count = t .count; accepted = t .accepted; stop = t .stop; target = target; flagged = flagged; doubles = t .doubles; head = t .head }
+
+abbrev pub soughtStep : Sought → Head → Step
+soughtStep (Sought.Found target flagged count) h = withStart target flagged (plainStep 0 count h)
+soughtStep (Sought.Refused why) h = plainStep (refusalNumber why) 0 h

@@ -8,20 +8,22 @@ use buffer_state::Mode;
 use buffer_state::Offered;
 use buffer_state::Read;
 use buffer_state::Refusal;
+use buffer_state::Sought;
 use buffer_state::Stop;
 use buffer_state::Tags;
 use buffer_state::Times;
 ghost use mathlib.Core.Path.{_≡_};
 ghost use mathlib.Core.List.{map};
-ghost use lib.ListN.{length};
+ghost use lib.IntN.{pos};
+ghost use lib.ListN.{length, getD};
 ghost use Rattle.buffer_state.specs.Batch.{offeredIn};
 ghost use Rattle.buffer_state.specs.Refusals.{refusalNumber, stopNumber};
-ghost use Rattle.buffer_state.specs.Run.{batchCall, walkedCall};
+ghost use Rattle.buffer_state.specs.Run.{batchCall, walkedCall, seekCall};
 ghost use Rattle.call_rows.specs.Encoded.{modeOf, offeredOf, linesCall, settingCall, rangesCallOf, callOf};
-ghost use Rattle.call_rows.specs.Replies.{lent, replyOn, Stepped, Lined, Spanned, Quiet, stepWith, plainStep, changeStep, countStep, readStep, acceptedStep};
+ghost use Rattle.call_rows.specs.Replies.{lent, replyOn, Stepped, Lined, Spanned, Quiet, stepWith, plainStep, changeStep, countStep, readStep, acceptedStep, soughtStep};
 
 // The kinds of call. Up to REMOVE they are lent a fate list, from ABORT to READ none, the two reports a range list, a batch a fate list. A
-// walk is told how many places a range list has.
+// walk is told how many places a range list has; a seek is lent none.
 pub const APPEND: u32 = 0;
 
 pub const REMOVE: u32 = 1;
@@ -46,13 +48,18 @@ pub const BATCH: u32 = 10;
 
 pub const WALKED: u32 = 11;
 
-// What one call gave: its refusal number or 0; how many lines, ranges or doubles, or frames that a walk took; of a batch, how many frames
-// were accepted and the number of the refusal that stopped it or 0; the doubles of a reading; the head.
+pub const SEEK: u32 = 12;
+
+// What one call gave: its refusal number or 0; how many lines, ranges or doubles, or frames that a walk took or that a seek has to decode;
+// of a batch, how many frames were accepted and the number of the refusal that stopped it or 0; of a seek, the numbers of its target and
+// of the random access point from which to decode; the doubles of a reading; the head.
 pub struct Step {
     pub refusal: usize,
     pub count: usize,
     pub accepted: usize,
     pub stop: usize,
+    pub target: usize,
+    pub flagged: usize,
     pub doubles: [f64; 3],
     pub head: Head,
 }
@@ -99,7 +106,7 @@ fn offered_of(row: [u32; 5], stamps: [i64; 2]) -> Offered
 
 // ---- what a call answered, as a step
 
-// Of a call that is no batch.
+// Of a call that is no batch and no seek: what only these tell is 0.
 fn step_with(refusal: usize, count: usize, doubles: [f64; 3], head: Head) -> Step
     ensures { λ r. ⌜ r ≡ stepWith refusal count doubles head ⌝ }
 {
@@ -108,6 +115,8 @@ fn step_with(refusal: usize, count: usize, doubles: [f64; 3], head: Head) -> Ste
         count,
         accepted: 0,
         stop: 0,
+        target: 0,
+        flagged: 0,
         doubles,
         head,
     }
@@ -163,18 +172,37 @@ fn accepted_step(answer: Accepted, h: Head) -> Step
             lines,
             stop,
         } => {
-            let doubles = [0.0; 3];
             let number = stop_number(stop);
+            let t = plain_step(0, lines, h);
             Step {
-                refusal: 0,
-                count: lines,
                 accepted: frames,
                 stop: number,
-                doubles,
-                head: h,
+                ..t
             }
         }
         Accepted::Refused(why) => plain_step(number_of(why), 0, h),
+    }
+}
+
+fn sought_step(answer: Sought, h: Head) -> Step
+    ensures { λ r. ⌜ r ≡ soughtStep answer h ⌝ }
+{
+    match answer {
+        Sought::Found {
+            target,
+            flagged,
+            count,
+        } => {
+            let shown = wide(target);
+            let from = wide(flagged);
+            let t = plain_step(0, count, h);
+            Step {
+                target: shown,
+                flagged: from,
+                ..t
+            }
+        }
+        Sought::Refused(why) => plain_step(number_of(why), 0, h),
     }
 }
 
@@ -259,7 +287,16 @@ pub fn walked_step(h: Head, track: u32, times: &Times, tags: &Tags, room: usize)
     count_step(a, h)
 }
 
-// One call on any head and arrays: what it is, in numbers, and the lists lent to it. A kind above WALKED is taken for that one; `frames` are
+// Where to start decoding for a track and an instant, the first of the two times.
+fn seek_step(h: Head, track: u32, stamps: [i64; 2], times: &Times, tags: &Tags) -> Step
+    ensures { λ r. ⌜ Quiet (replyOn (seekCall track (getD stamps 0 (pos 0))) (lent h (now (times .entry)) (now (tags .entry)))) r (now (times .entry)) (now (tags .entry)) ⌝ }
+{
+    let instant = stamps[0];
+    let a = seek::seek(h, times, tags, track, instant);
+    sought_step(a, h)
+}
+
+// One call on any head and arrays: what it is, in numbers, and the lists lent to it. A kind above SEEK is taken for that one; `frames` are
 // those of a batch.
 pub fn make_call(
     h: Head,
@@ -293,5 +330,8 @@ pub fn make_call(
     if kind == BATCH {
         return batch_step(h, frames, times, tags, fates);
     }
-    walked_step(h, row[1], times, tags, list.len())
+    if kind == WALKED {
+        return walked_step(h, row[1], times, tags, list.len());
+    }
+    seek_step(h, row[1], stamps, times, tags)
 }

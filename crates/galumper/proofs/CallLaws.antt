@@ -1,20 +1,24 @@
 -- From what a call answered on the head that was read: what the exported call answers, and what it leaves of what is lent.
-use mathlib.Core.Path.{_≡_, refl, ap, _∙_}
+use mathlib.Core.Path.{_≡_, refl, ap, subst, _∙_}
 use mathlib.Core.List.{List}
-use Prim.Native.Nat.{ℕ}
+use Prim.Native.Nat.{ℕ, _≤_}
+use native.Mathlib.Omega.{arith}
 use lib.IntN.{ℤ}
 use Rattle.buffer_state.specs.declared.Batched.{Batched}
 use Rattle.buffer_state.specs.declared.Changed.{Changed}
 use Rattle.buffer_state.specs.declared.Count.{Count}
 use Rattle.buffer_state.specs.declared.Counted.{Counted}
 use Rattle.buffer_state.specs.declared.Head.{Head}
-use Rattle.buffer_state.specs.Answers.{counted, timesAfter, tagsAfter, listAfter, batched, outcomeOf, rangeCount, rangesAfter}
+use Rattle.buffer_state.specs.declared.Sought.{Sought}
+use Rattle.buffer_state.specs.Answers.{counted, timesAfter, tagsAfter, listAfter, batched, outcomeOf, rangeCount, rangesAfter, sought}
 use Rattle.buffer_state.specs.Append.{Outcome}
 use Rattle.buffer_state.specs.Batch.{Batch}
 use Rattle.buffer_state.specs.Ranges.{Range}
 use Rattle.buffer_state.specs.Refusals.{Result, refused, done}
+use Rattle.buffer_state.specs.Seek.{Start}
 use Rattle.buffer_laws.proofs.AnswerLaws.{Leaves, LeavesBatch}
 use Rattle.ranges.specs.Bars.{Reported}
+use Rattle.seek.specs.Places.{Within}
 use Rattle.lumps.specs.Lumps.{Taken, lumpedOf}
 use Rattle.lumps.specs.declared.LumpReader.{LumpReader}
 use Rattle.galumper.specs.declared.Answered.{Answered}
@@ -22,7 +26,8 @@ use Rattle.galumper.specs.declared.FlatAnswer.{FlatAnswer}
 use Rattle.galumper.specs.declared.FlatBatched.{FlatBatched}
 use Rattle.galumper.specs.declared.FlatHead.{FlatHead}
 use Rattle.galumper.specs.declared.FlatLumpReader.{FlatLumpReader}
-use Rattle.galumper.specs.Calls.{handedBack, countedOut, outcomeOut, batchedOut, batchOut, reportOut, lumpedOut, lumpOut}
+use Rattle.galumper.specs.declared.FlatStart.{FlatStart}
+use Rattle.galumper.specs.Calls.{handedBack, countedOut, outcomeOut, batchedOut, batchOut, reportOut, soughtOut, startOut, lumpedOut, lumpOut}
 
 -- ---- abort and the setters
 
@@ -80,3 +85,22 @@ reported lent result h read r after out e a k =
 pub lump-out : (c : FlatLumpReader) (r : LumpReader) (x : Result Taken) → lumpedOut c (lumpedOf r x .answer) (lumpedOf r x .reader) ≡ lumpOut c x
 lump-out c r (refused why) = refl
 lump-out c r (done t) = refl
+
+-- ---- where to start decoding
+
+start-out : (x : Result Start) → soughtOut (sought x) ≡ startOut x
+start-out (refused why) = refl
+start-out (done s) = refl
+
+-- a refusal counts nothing
+pub start-few : (most : ℕ) (x : Result Start) → Within most (sought x) → startOut x .count ≤ most
+start-few most (refused why) h = omega arith
+start-few most (done s) h = h
+
+pub started : (result : Head → Result Start) (most : Head → ℕ) (h read : Head) (r : Sought) (out : FlatStart)
+    → h ≡ read → (r ≡ sought (result h)) × Within (most h) r → out ≡ soughtOut r → (out ≡ startOut (result read)) × (out .count ≤ most read)
+started result most h read r out e a k =
+    let told = k ∙ ap soughtOut (a .0) ∙ start-out (result h) in (
+      told ∙ ap (λ (x : Head). startOut (result x)) e,
+      subst (λ (x : Head). out .count ≤ most x) e (rw told (start-few (most h) (result h) (subst (Within (most h)) (a .0) (a .1)))),
+    )

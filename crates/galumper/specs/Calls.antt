@@ -1,7 +1,9 @@
 -- What each exported call answers, from the call's own definition: after a refusal the flat head that was handed in, else the new
 -- head laid flat; the refusal number, 0 where there is none, and the count beside it.
+use mathlib.Core.Bool.{Bool, not}
 use mathlib.Core.List.{List, map}
 use Prim.Native.Nat.{ℕ}
+use lib.Dec.{eqb}
 use lib.IntN.{ℤ}
 use lib.Ieee.{Float}
 use lib.ListN.{length}
@@ -16,6 +18,8 @@ use Rattle.buffer_state.specs.declared.Count.the-variants as Count
 use Rattle.buffer_state.specs.declared.Head.{Head}
 use Rattle.buffer_state.specs.declared.Read.{Read}
 use Rattle.buffer_state.specs.declared.Read.the-variants as Read
+use Rattle.buffer_state.specs.declared.Sought.{Sought}
+use Rattle.buffer_state.specs.declared.Sought.the-variants as Sought
 use Rattle.buffer_state.specs.declared.Stop.{Stop}
 use Rattle.buffer_state.specs.Answers.{appendResult, removeResult, batchResult}
 use Rattle.buffer_state.specs.Append.{Outcome}
@@ -23,6 +27,8 @@ use Rattle.buffer_state.specs.Batch as Rows
 use Rattle.buffer_state.specs.Batch.{Batch}
 use Rattle.buffer_state.specs.Lent.{headOf}
 use Rattle.buffer_state.specs.Refusals.{Result, refused, done, refusalNumber, stopNumber}
+use Rattle.buffer_state.specs.Seek.{Start}
+use Rattle.feed.specs.declared.Part.{Part}
 use Rattle.lumps.specs.Lumps.{Taken, lastResult}
 use Rattle.lumps.specs.Readers.{readerOf}
 use Rattle.lumps.specs.declared.LumpReader.{LumpReader}
@@ -33,7 +39,9 @@ use Rattle.galumper.specs.declared.FlatHead.{FlatHead}
 use Rattle.galumper.specs.declared.FlatLumped.{FlatLumped}
 use Rattle.galumper.specs.declared.FlatLumpReader.{FlatLumpReader}
 use Rattle.galumper.specs.declared.FlatOffered.{FlatOffered}
+use Rattle.galumper.specs.declared.FlatPart.{FlatPart}
 use Rattle.galumper.specs.declared.FlatSegmentTrack.{FlatSegmentTrack}
+use Rattle.galumper.specs.declared.FlatStart.{FlatStart}
 use Rattle.galumper.specs.declared.Reading.{Reading}
 use Rattle.galumper.specs.Flat.{headIn, headOut, offeredIn, segmentTrackIn, readerIn, readerOut}
 
@@ -98,6 +106,28 @@ batchOut c (done r) = acceptedWith (headOf (r .outcome .after)) (r .accepted) (l
 abbrev pub reportOut : Count → FlatAnswer
 reportOut (Count.Done n) = record { refusal = 0; count = n }
 reportOut (Count.Refused why) = record { refusal = refusalNumber why; count = 0 }
+
+-- ---- where to start decoding: after a refusal, zeros beside its number
+
+abbrev pub noStart : ℕ → FlatStart
+noStart why = record { refusal = why; target = 0; flagged = 0; count = 0 }
+
+abbrev pub soughtOut : Sought → FlatStart
+soughtOut (Sought.Found target flagged count) = record { refusal = 0; target = target; flagged = flagged; count = count }
+soughtOut (Sought.Refused why) = noStart (refusalNumber why)
+
+abbrev pub startOut : Result Start → FlatStart
+startOut (refused why) = noStart (refusalNumber why)
+startOut (done s) = record { refusal = 0; target = s .target; flagged = s .flagged; count = s .count }
+
+-- ---- what to feed
+
+-- a flag as C has it
+abbrev pub nonzero : ℕ → Bool
+nonzero n = not (eqb n 0)
+
+abbrev pub partIn : FlatPart → Part
+partIn p = record { start = p .start; length = p .length }
 
 -- ---- a lump: after a refusal the reader as it came
 

@@ -36,7 +36,7 @@ use Rattle.galumper.specs.declared.FlatTrack.{FlatTrack}
 
 -- its number, which the header has too
 abbrev pub abi : ℕ
-abi = 7
+abi = 8
 
 -- the bytes of a head, and of 1,024 rows of two numbers of 8 bytes and five of 4
 abbrev pub bufferSize : ℕ

@@ -6,17 +6,23 @@
 ghost use mathlib.Core.Path.{_≡_};
 ghost use mathlib.Core.Bool.{cond};
 ghost use mathlib.Core.List.{map};
+ghost use Prim.Native.Nat.{_≤_};
 ghost use lib.ListN.{length};
-ghost use Rattle.buffer_state.specs.Answers.{timesCreated, tagsCreated, timesAfter, tagsAfter, listAfter, outcomeOf, abortAnswer, modeAnswer, offsetAnswer, windowStartAnswer, windowEndAnswer, settingsAnswer, createAnswer, rangeCount, rangesAfter, trackRangesResult, commonRangesResult, takenCount, walkedResult};
+ghost use Rattle.buffer_state.specs.Answers.{timesCreated, tagsCreated, timesAfter, tagsAfter, listAfter, outcomeOf, abortAnswer, modeAnswer, offsetAnswer, windowStartAnswer, windowEndAnswer, settingsAnswer, createAnswer, rangeCount, rangesAfter, trackRangesResult, commonRangesResult, takenCount, walkedResult, seekResult};
+ghost use Rattle.buffer_state.specs.Layout.{bufferOf};
+ghost use Rattle.buffer_state.specs.Lent.{stateAt};
 ghost use Rattle.buffer_state.specs.Refusals.{refusalNumber};
+ghost use Rattle.buffer_state.specs.Run.{storedOn};
 ghost use Rattle.buffer_state.specs.declared.Mode.the-variants.{Segments, Sequence};
 ghost use Rattle.buffer_state.specs.Settings.{create};
 ghost use Rattle.buffer_state.specs.WellFormed.{allOf};
 ghost use Rattle.segments.specs.Segments.{listSegment, rowCount, rowsAfter};
+ghost use Rattle.feed.specs.Feed.{feedOf, feedAt};
+ghost use Rattle.feed.specs.Parts.{partOf, bytesIn, pointerIn};
 ghost use Rattle.lumps.specs.Lumps.{moreResult, bufferAfter, framesAfter};
 ghost use Rattle.lumps.specs.Readers.{readerOf};
 ghost use Rattle.lumps.specs.Readings.{fresh};
-ghost use Rattle.galumper.specs.Calls.{refusedWith, doneWith, changedOut, handedBack, createdOut, countedOut, outcomeOut, appendFlat, removeFlat, wholeRefused, acceptedWith, batchedOut, batchFlat, batchOut, reportOut, lumpedOut, lastFlat, lumpOut, readingOut};
+ghost use Rattle.galumper.specs.Calls.{refusedWith, doneWith, changedOut, handedBack, createdOut, countedOut, outcomeOut, appendFlat, removeFlat, wholeRefused, acceptedWith, batchedOut, batchFlat, batchOut, reportOut, soughtOut, startOut, nonzero, partIn, lumpedOut, lastFlat, lumpOut, readingOut};
 ghost use Rattle.galumper.specs.Flat.{abi, bufferSize, flagOut, modeIn, modeOut, endIn, boundedOut, endOut, trackIn, trackOut, groupIn, groupOut, settingIn, settingOut, settingsIn, settingsOut, durationIn, offeredIn, segmentTrackIn, phaseIn, phaseOut, readerIn, readerOut, plainTrack, plainEnd, plainSettings, plain, headIn, headOut};
 use buffer_state::Accepted;
 use buffer_state::Answer;
@@ -29,6 +35,7 @@ use buffer_state::Read;
 use buffer_state::Refusal;
 use buffer_state::Setting;
 use buffer_state::Settings;
+use buffer_state::Sought;
 use buffer_state::Stop;
 use buffer_state::Tags;
 use buffer_state::Times;
@@ -153,6 +160,23 @@ pub struct FlatBatched {
 pub struct FlatLumped {
     pub reader: FlatLumpReader,
     pub answer: FlatAnswer,
+}
+
+// What a seek answers: its refusal number (0: done), the number of the frame that covers the instant, that of the random access point from
+// which to decode, and how many frames there are to decode.
+#[repr(C)]
+pub struct FlatStart {
+    pub refusal: u32,
+    pub target: u32,
+    pub flagged: u32,
+    pub count: usize,
+}
+
+// Where the bytes to feed start in what was lent, and how many they are.
+#[repr(C)]
+pub struct FlatPart {
+    pub start: usize,
+    pub length: usize,
 }
 
 // What reading the settings answers: the doubles as they were given.
@@ -665,6 +689,29 @@ fn lumped_out(c: FlatLumpReader, answer: Count, r: LumpReader) -> FlatLumped
     }
 }
 
+fn start_out(answer: Sought) -> FlatStart
+    ensures { λ r. ⌜ r ≡ soughtOut answer ⌝ }
+{
+    match answer {
+        Sought::Found {
+            target,
+            flagged,
+            count,
+        } => FlatStart {
+            refusal: 0,
+            target,
+            flagged,
+            count,
+        },
+        Sought::Refused(why) => FlatStart {
+            refusal: buffer_state::refusal_number(why),
+            target: 0,
+            flagged: 0,
+            count: 0,
+        },
+    }
+}
+
 fn reading_out(answer: Read) -> Reading
     ensures { λ r. ⌜ r ≡ readingOut answer ⌝ }
 {
@@ -700,7 +747,7 @@ fn reading_out(answer: Read) -> Reading
 pub extern "C" fn galumper_abi() -> u32
     ensures { λ r. ⌜ r ≡ abi ⌝ }
 {
-    7
+    8
 }
 
 // The bytes of a buffer: a head and its arrays.
@@ -926,6 +973,43 @@ pub extern "C" fn galumper_lent_walked(
 {
     let h = head_in(c);
     report_out(ranges::walked(h, times, tags, track, room))
+}
+
+// Where to start decoding for a track and an instant in microseconds. The frames to decode are never more than the track has.
+#[no_mangle]
+pub extern "C" fn galumper_lent_seek(
+    c: FlatHead,
+    times: &Times,
+    tags: &Tags,
+    track: u32,
+    instant: i64,
+) -> FlatStart
+    ensures { λ r. ⌜ r ≡ startOut (seekResult track instant (headIn c) (now (times .entry)) (now (tags .entry))) ⌝ }
+    ensures { λ r. ⌜ r .count ≤ storedOn track (bufferOf (stateAt (headIn c) (now (times .entry)) (now (tags .entry)))) ⌝ }
+{
+    let h = head_in(c);
+    start_out(seek::seek(h, times, tags, track, instant))
+}
+
+// What to feed a decoder, by where it stands: in the initialization bytes, all of them, or in the segment, the part from a place up to
+// another. An exported function can hand back no slice, so it tells the part, and what is lent is the caller's to point into.
+#[no_mangle]
+pub extern "C" fn galumper_lent_feed(
+    initialization: &[u8],
+    segment: &[u8],
+    whole: u32,
+    start: usize,
+    end: usize,
+) -> FlatPart
+    ensures part { λ r. ⌜ partIn r ≡ partOf (nonzero whole) (length (now (initialization .entry))) (length (now (segment .entry))) start end ⌝ }
+    ensures bytes { λ r. ⌜ bytesIn (partIn r) (cond (nonzero whole) (now (initialization .entry)) (now (segment .entry))) ≡ feedOf (nonzero whole) (now (initialization .entry)) (now (segment .entry)) start end ⌝ }
+    ensures stands { λ r. ⌜ pointerIn (partIn r) (cond (nonzero whole) (initialization .entry .ptr) (segment .entry .ptr)) ≡ feedAt (nonzero whole) (initialization .entry .ptr) (segment .entry .ptr) (length (now (segment .entry))) start end ⌝ }
+{
+    let p = feed::part_of(initialization.len(), segment.len(), whole != 0, start, end);
+    FlatPart {
+        start: p.start,
+        length: p.length,
+    }
 }
 
 // The frames of one track in a segment, each with its size, as a row of numbers: track, presentation and decode timestamp, duration,

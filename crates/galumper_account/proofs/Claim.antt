@@ -1,7 +1,7 @@
 -- The claim of demand 3 for the exported calls: every history of them is a history of the library's own, read in the account's words,
 -- so that the claim of the crate account holds of it. Every list of exported calls has a history, no exported call asks anything of its
 -- caller, and the running code meets the contracts of which a history is made.
-use mathlib.Core.Path.{_≡_, refl, sym, ap, _∙_}
+use mathlib.Core.Path.{_≡_, refl, sym, ap, subst, _∙_}
 use mathlib.Core.List.{List, [], _∷_, map}
 use Prim.Native.Nat.{ℕ}
 use contract.Lifetimes.{Lfts}
@@ -21,13 +21,19 @@ use Rattle.buffer_state.specs.declared.Counted.{Counted}
 use Rattle.buffer_state.specs.declared.Mode.the-variants.{Segments, Sequence}
 use Rattle.buffer_state.specs.declared.Read.{Read}
 use Rattle.buffer_state.specs.declared.Read.the-variants as Read
-use Rattle.buffer_state.specs.Answers.{changed, zeroHead, createAnswer, timesCreated, tagsCreated, timesAfter, tagsAfter, listAfter, outcomeOf, abortAnswer, modeAnswer, offsetAnswer, windowStartAnswer, windowEndAnswer, settingsAnswer, rangeCount, rangesAfter, trackRangesResult, commonRangesResult, takenCount, walkedResult}
+use Rattle.buffer_state.specs.declared.Sought.{Sought}
+use Rattle.buffer_state.specs.declared.Sought.the-variants.{Found, Refused}
+use Rattle.buffer_state.specs.Answers.{changed, zeroHead, createAnswer, timesCreated, tagsCreated, timesAfter, tagsAfter, listAfter, outcomeOf, abortAnswer, modeAnswer, offsetAnswer, windowStartAnswer, windowEndAnswer, settingsAnswer, rangeCount, rangesAfter, trackRangesResult, commonRangesResult, takenCount, walkedResult, seekResult}
 use Rattle.buffer_state.specs.Buffer.{Buffer, fresh}
-use Rattle.buffer_state.specs.Lent.{Lent}
+use Rattle.buffer_state.specs.Layout.{bufferOf}
+use Rattle.buffer_state.specs.Lent.{Lent, stateAt}
 use Rattle.buffer_state.specs.Refusals.{Result, done}
-use Rattle.buffer_state.specs.Run.{Answer, Entry}
+use Rattle.buffer_state.specs.Run.{Answer, Entry, storedOn}
+use Rattle.buffer_state.specs.Seek.{Start}
 use Rattle.buffer_state.specs.Settings.{create}
-use Rattle.account.specs.Made.{Listed, Joined, linesOf, joinedOf, rangesOf, changeOf, readingOf, walkedOf, resultOf, entries}
+use Rattle.seek.specs.Places.{Within}
+use Rattle.seek.proofs.CallLaws.{seek-within}
+use Rattle.account.specs.Made.{Listed, Joined, linesOf, joinedOf, rangesOf, changeOf, readingOf, walkedOf, soughtOf, resultOf, entries}
 use Rattle.account.specs.History as Account
 use Rattle.account.proofs.Claim.{every-history, lend, two, three, four}
 use Rattle.galumper.specs.declared.Answered.{Answered}
@@ -35,11 +41,13 @@ use Rattle.galumper.specs.declared.FlatAnswer.{FlatAnswer}
 use Rattle.galumper.specs.declared.FlatBatched.{FlatBatched}
 use Rattle.galumper.specs.declared.FlatHead.{FlatHead}
 use Rattle.galumper.specs.declared.FlatOffered.{FlatOffered}
-use Rattle.galumper.specs.Calls.{outcomeOut, handedBack, createdOut, appendFlat, removeFlat, batchFlat, batchOut, reportOut, readingOut}
+use Rattle.galumper.specs.declared.FlatStart.{FlatStart}
+use Rattle.galumper.specs.Calls.{outcomeOut, handedBack, createdOut, appendFlat, removeFlat, batchFlat, batchOut, reportOut, startOut, readingOut}
 use Rattle.galumper.specs.Flat.{headIn, headOut, offeredIn}
-use Rattle.galumper_account.specs.Told.{Ask, append, remove, abort, setSegments, setSequence, setOffset, setWindowStart, setWindowEnd, readSettings, trackRanges, commonRanges, batch, walked, Got, Told, numbersIn, countOf, acceptedOf, answerOf, readOf, given, back, made}
-use Rattle.galumper_account.specs.History.{Held, lentIn, From, none, by-append, by-remove, by-abort, by-segments, by-sequence, by-offset, by-window-start, by-window-end, by-reading, by-track-ranges, by-common-ranges, by-batch, by-walk, History, from, resultNumbers, Claim, Happens}
-use Rattle.galumper_account.proofs.ReadLaws.{countNumber, acceptedNumbers, takenNumbers, answerNumber, readNumber, Reports, report-read, Reads, reading-read, Sound, Counts, Accepts, Changes}
+use Rattle.galumper.proofs.CallLaws.{start-few}
+use Rattle.galumper_account.specs.Told.{Ask, append, remove, abort, setSegments, setSequence, setOffset, setWindowStart, setWindowEnd, readSettings, trackRanges, commonRanges, batch, walked, seek, Got, Told, numbersIn, countOf, acceptedOf, answerOf, readOf, startOf, given, back, made}
+use Rattle.galumper_account.specs.History.{Held, lentIn, From, none, by-append, by-remove, by-abort, by-segments, by-sequence, by-offset, by-window-start, by-window-end, by-reading, by-track-ranges, by-common-ranges, by-batch, by-walk, by-seek, History, from, resultNumbers, Claim, Happens}
+use Rattle.galumper_account.proofs.ReadLaws.{countNumber, acceptedNumbers, takenNumbers, soughtNumbers, answerNumber, readNumber, Reports, report-read, Starts, start-read, Reads, reading-read, Sound, Counts, Accepts, Changes}
 use Rattle.galumper_account.proofs.StepLaws.{creation, batching, appending, removing, aborting, mode-setting, offset-setting, window-start-setting, window-end-setting}
 use Rattle.galumper.proofs.galumper_lent_create.Reads as Create
 use Rattle.galumper.proofs.galumper_lent_append.Reads as Append
@@ -55,6 +63,7 @@ use Rattle.galumper.proofs.galumper_lent_read_settings.Reads as ReadSettings
 use Rattle.galumper.proofs.galumper_lent_track_ranges.Reads as TrackRanges
 use Rattle.galumper.proofs.galumper_lent_common_ranges.Reads as CommonRanges
 use Rattle.galumper.proofs.galumper_lent_walked.Reads as Walked
+use Rattle.galumper.proofs.galumper_lent_seek.Reads as Seek
 use Rattle.galumper.proofs.galumper_lent_create.Statement as CreateSays
 use Rattle.galumper.proofs.galumper_lent_append.Statement as AppendSays
 use Rattle.galumper.proofs.galumper_lent_append_batch.Statement as BatchSays
@@ -69,6 +78,7 @@ use Rattle.galumper.proofs.galumper_lent_read_settings.Statement as ReadSetting
 use Rattle.galumper.proofs.galumper_lent_track_ranges.Statement as TrackRangesSays
 use Rattle.galumper.proofs.galumper_lent_common_ranges.Statement as CommonRangesSays
 use Rattle.galumper.proofs.galumper_lent_walked.Statement as WalkedSays
+use Rattle.galumper.proofs.galumper_lent_seek.Statement as SeekSays
 use Rattle.galumper.proofs.galumper_lent_create.Met as CreateMet
 use Rattle.galumper.proofs.galumper_lent_append.Met as AppendMet
 use Rattle.galumper.proofs.galumper_lent_append_batch.Met as BatchMet
@@ -83,10 +93,11 @@ use Rattle.galumper.proofs.galumper_lent_read_settings.Met as ReadSettingsMet
 use Rattle.galumper.proofs.galumper_lent_track_ranges.Met as TrackRangesMet
 use Rattle.galumper.proofs.galumper_lent_common_ranges.Met as CommonRangesMet
 use Rattle.galumper.proofs.galumper_lent_walked.Met as WalkedMet
+use Rattle.galumper.proofs.galumper_lent_seek.Met as SeekMet
 
 -- ---- the numbers of an answer are those of its result
 
--- those of a call that is no batch and no walk
+-- those of a call that is no batch, no walk and no seek
 abbrev plain : ℕ → List ℕ
 plain n = n ∷ 0 ∷ []
 
@@ -105,6 +116,10 @@ ranges-number l (Count.Refused why) = refl
 walked-numbers : (n : Count) → resultNumbers (walkedOf n) ≡ takenNumbers n
 walked-numbers (Count.Done n) = refl
 walked-numbers (Count.Refused why) = refl
+
+sought-numbers : (a : Sought) → resultNumbers (soughtOf a) ≡ soughtNumbers a
+sought-numbers (Found target flagged count) = refl
+sought-numbers (Refused why) = refl
 
 change-number : (a : Code.Answer) → resultNumbers (changeOf a) ≡ plain (answerNumber a)
 change-number Said.Done = refl
@@ -151,6 +166,9 @@ reporting r l o = ap plain (o .number ∙ sym (ap countNumber (o .same))) ∙ sy
 
 walking : {n : Count} (r : FlatAnswer) → Reports n r → r .refusal ∷ r .count ∷ [] ≡ resultNumbers (walkedOf (countOf r))
 walking r o = o .numbers ∙ sym (ap takenNumbers (o .same)) ∙ sym (walked-numbers (countOf r))
+
+seeking : {n : Result Start} (r : FlatStart) → Starts n r → r .refusal ∷ r .count ∷ [] ≡ resultNumbers (soughtOf (startOf r))
+seeking r o = o .numbers ∙ sym (ap soughtNumbers (o .same)) ∙ sym (sought-numbers (startOf r))
 
 changing : {n : Changed} (r : Answered) → Changes n r → plain (r .answer .refusal) ≡ resultNumbers (changeOf (answerOf (r .answer)))
 changing r o = ap plain (o .number ∙ sym (ap (λ (n : Changed). answerNumber (n .answer)) (o .same))) ∙ sym (change-number (answerOf (r .answer)))
@@ -224,6 +242,14 @@ follows {c} s (by-walk track room times tags r κs h k) =
     let o : Reports n r = rw h (report-read n) in
     one (walking r o)
     (λ rest. Account.by-walk track room times tags (countOf r) κs (o .same) rest)
+    (follows s k)
+follows {c} s (by-seek track t times tags r κs h k) =
+    let read = headIn (c .head) in
+    let n = seekResult track t read (c .times) (c .tags) in
+    let o : Starts n r = rw (h .0) (start-read n) in
+    let few = subst (Within (storedOn track (bufferOf (stateAt read (c .times) (c .tags))))) (sym (o .same)) (seek-within track t read (c .times) (c .tags)) in
+    one (seeking r o)
+    (λ rest. Account.by-seek track t times tags (startOf r) κs (o .same, few) rest)
     (follows s k)
 
 -- ---- THE THEOREM
@@ -315,6 +341,11 @@ onward c (batch rows l ∷ asks) =
 onward c (walked track room ∷ asks) =
     let r = reportOut (takenCount (walkedResult room track (headIn (c .head)) (c .times) (c .tags))) in
     first {d = c} (λ ms t k. by-walk track room (lend (c .times)) (lend (c .tags)) r two refl k) (onward c asks)
+onward c (seek track instant ∷ asks) =
+    let read = headIn (c .head) in
+    let x = seekResult track instant read (c .times) (c .tags) in
+    let few = start-few (storedOn track (bufferOf (stateAt read (c .times) (c .tags)))) x (seek-within track instant read (c .times) (c .tags)) in
+    first {d = c} (λ ms t k. by-seek track instant (lend (c .times)) (lend (c .tags)) (startOut x) two (refl, few) k) (onward c asks)
 
 -- whatever the arrays held before the creation
 pub some-exported-history : (kinds : List ℕ) (ts : List (List ℤ)) (gs : List (List ℕ)) (asks : List Ask) → create kinds ≡ done (fresh kinds) → Happens kinds asks
@@ -333,7 +364,7 @@ some-exported-history kinds ts gs asks made =
 -- ---- it has no hidden door
 
 -- no exported call asks anything of its caller
-pub exported-free : (κs : Lfts 2) (λs : Lfts 3) (μs : Lfts 4) (c : FlatHead) (f : FlatOffered) (x y : Float) (track room : ℕ) (kinds : RefT (List ℕ))
+pub exported-free : (κs : Lfts 2) (λs : Lfts 3) (μs : Lfts 4) (c : FlatHead) (f : FlatOffered) (x y : Float) (track room : ℕ) (instant : ℤ) (kinds : RefT (List ℕ))
     (times : RefT (List (List ℤ))) (tags : RefT (List (List ℕ))) (fates : RefT (List (List ℕ))) (list rows : RefT (List (List ℤ)))
     → Create.Asked λs (kinds, (times, (tags, tt))) × Append.Asked λs (c, (f, (times, (tags, (fates, tt)))))
     × Remove.Asked λs (c, (x, (y, (times, (tags, (fates, tt)))))) × Abort.Asked κs (c, (times, (tags, tt)))
@@ -342,12 +373,13 @@ pub exported-free : (κs : Lfts 2) (λs : Lfts 3) (μs : Lfts 4) (c : FlatHead) 
     × SetWindowEnd.Asked κs (c, (times, (tags, (x, tt)))) × ReadSettings.Asked κs (c, (times, (tags, tt)))
     × TrackRanges.Asked λs (c, (times, (tags, (track, (list, tt))))) × CommonRanges.Asked λs (c, (times, (tags, (list, tt))))
     × Batch.Asked μs (c, (rows, (times, (tags, (fates, tt))))) × Walked.Asked κs (c, (times, (tags, (track, (room, tt)))))
-exported-free κs λs μs c f x y track room kinds times tags fates list rows = (tt, tt, tt, tt, tt, tt, tt, tt, tt, tt, tt, tt, tt, tt)
+    × Seek.Asked κs (c, (times, (tags, (track, (instant, tt)))))
+exported-free κs λs μs c f x y track room instant kinds times tags fates list rows = (tt, tt, tt, tt, tt, tt, tt, tt, tt, tt, tt, tt, tt, tt, tt)
 
 -- the running code meets the contracts of which a history is made
 pub exported-code-meets : {M : Type 1}
     → CreateSays.statement M × AppendSays.statement M × RemoveSays.statement M × AbortSays.statement M
     × SetSegmentsSays.statement M × SetSequenceSays.statement M × SetOffsetSays.statement M × SetWindowStartSays.statement M
     × SetWindowEndSays.statement M × ReadSettingsSays.statement M × TrackRangesSays.statement M × CommonRangesSays.statement M
-    × BatchSays.statement M × WalkedSays.statement M
-exported-code-meets = (CreateMet.met, AppendMet.met, RemoveMet.met, AbortMet.met, SetSegmentsMet.met, SetSequenceMet.met, SetOffsetMet.met, SetWindowStartMet.met, SetWindowEndMet.met, ReadSettingsMet.met, TrackRangesMet.met, CommonRangesMet.met, BatchMet.met, WalkedMet.met)
+    × BatchSays.statement M × WalkedSays.statement M × SeekSays.statement M
+exported-code-meets = (CreateMet.met, AppendMet.met, RemoveMet.met, AbortMet.met, SetSegmentsMet.met, SetSequenceMet.met, SetOffsetMet.met, SetWindowStartMet.met, SetWindowEndMet.met, ReadSettingsMet.met, TrackRangesMet.met, CommonRangesMet.met, BatchMet.met, WalkedMet.met, SeekMet.met)

@@ -22,16 +22,19 @@ use Rattle.buffer_state.specs.declared.Head.{Head}
 use Rattle.buffer_state.specs.declared.Read.{Read}
 use Rattle.buffer_state.specs.declared.Read.the-variants as Read
 use Rattle.buffer_state.specs.declared.Refusal.{Refusal}
-use Rattle.buffer_state.specs.declared.Refusal.the-variants.{IllFormed, ShortFates, NoTrack, FrameLimits, Seconds, Order, ResultLimits, Full, LastNumber, ShortList, Kinds, Malformed, LentSize, LargeFragment}
+use Rattle.buffer_state.specs.declared.Refusal.the-variants.{IllFormed, ShortFates, NoTrack, FrameLimits, Seconds, Order, ResultLimits, Full, LastNumber, ShortList, Kinds, Malformed, LentSize, LargeFragment, NoStart}
+use Rattle.buffer_state.specs.declared.Sought.{Sought}
+use Rattle.buffer_state.specs.declared.Sought.the-variants as Sought
 use Rattle.buffer_state.specs.declared.Stop.{Stop}
 use Rattle.buffer_state.specs.declared.Stop.the-variants.{Nothing, By}
-use Rattle.buffer_state.specs.Answers.{changed, counted, zeroHead, batched, outcomeOf}
+use Rattle.buffer_state.specs.Answers.{changed, counted, zeroHead, batched, outcomeOf, sought}
 use Rattle.buffer_state.specs.Append.{Outcome}
 use Rattle.buffer_state.specs.Batch.{Batch}
 use Rattle.buffer_state.specs.Buffer.{Buffer, fresh, freshSettings}
 use Rattle.buffer_state.specs.Lent.{headOf, wellFormedAt, onLent}
 use Rattle.buffer_state.specs.Limits.{mostTracks, knownKind}
 use Rattle.buffer_state.specs.Refusals.{Result, refused, done, refusalNumber, stopNumber}
+use Rattle.buffer_state.specs.Seek.{Start}
 use Rattle.buffer_state.specs.Settings.{create}
 use Rattle.buffer_state.specs.WellFormed.{allOf}
 use Rattle.buffer_laws.proofs.KeptLaws.{Keeps, Made, OutcomeKeeps, SettingKeeps}
@@ -39,11 +42,12 @@ use Rattle.galumper.specs.declared.Answered.{Answered}
 use Rattle.galumper.specs.declared.FlatAnswer.{FlatAnswer}
 use Rattle.galumper.specs.declared.FlatBatched.{FlatBatched}
 use Rattle.galumper.specs.declared.FlatHead.{FlatHead}
+use Rattle.galumper.specs.declared.FlatStart.{FlatStart}
 use Rattle.galumper.specs.declared.Reading.{Reading}
-use Rattle.galumper.specs.Calls.{outcomeOut, batchOut, handedBack, reportOut, readingOut}
+use Rattle.galumper.specs.Calls.{outcomeOut, batchOut, handedBack, reportOut, startOut, readingOut}
 use Rattle.galumper.specs.Flat.{headIn, headOut}
 use Rattle.galumper.proofs.FlatLaws.{head-back}
-use Rattle.galumper_account.specs.Told.{refusalOf, countOf, stopOf, acceptedOf, answerOf, readOf}
+use Rattle.galumper_account.specs.Told.{refusalOf, countOf, stopOf, acceptedOf, answerOf, readOf, startOf}
 
 -- ---- numbers of refusals
 
@@ -66,6 +70,7 @@ numbered Kinds = record { some = refl; back = refl }
 numbered Malformed = record { some = refl; back = refl }
 numbered LentSize = record { some = refl; back = refl }
 numbered LargeFragment = record { some = refl; back = refl }
+numbered NoStart = record { some = refl; back = refl }
 
 -- a refusal's number is read as that refusal, in an answer of any kind
 refused-back : {A : Type 0} (unless : A) (by : Refusal → A) (why : Refusal)
@@ -91,6 +96,11 @@ abbrev pub takenNumbers : Count → List ℕ
 takenNumbers (Count.Done n) = 0 ∷ n ∷ []
 takenNumbers (Count.Refused why) = refusalNumber why ∷ 0 ∷ []
 
+-- those of a seek's
+abbrev pub soughtNumbers : Sought → List ℕ
+soughtNumbers (Sought.Found target flagged count) = 0 ∷ count ∷ []
+soughtNumbers (Sought.Refused why) = refusalNumber why ∷ 0 ∷ []
+
 abbrev pub answerNumber : Answer → ℕ
 answerNumber Answer.Done = 0
 answerNumber (Answer.Refused why) = refusalNumber why
@@ -100,7 +110,7 @@ readNumber (Read.Bounded offset start end) = 0
 readNumber (Read.Unbounded offset start) = 0
 readNumber (Read.Refused why) = refusalNumber why
 
--- ---- a report, a walk and a reading
+-- ---- a report, a walk, a seek and a reading
 
 pub record Reports (n : Count) (r : FlatAnswer) : Type 0 where
   pub same : countOf r ≡ n
@@ -110,6 +120,14 @@ pub record Reports (n : Count) (r : FlatAnswer) : Type 0 where
 pub report-read : (n : Count) → Reports n (reportOut n)
 report-read (Count.Done n) = record { same = refl; number = refl; numbers = refl }
 report-read (Count.Refused why) = record { same = refused-back (Count.Done 0) Count.Refused why; number = refl; numbers = refl }
+
+pub record Starts (n : Result Start) (r : FlatStart) : Type 0 where
+  pub same : startOf r ≡ sought n
+  pub numbers : r .refusal ∷ r .count ∷ [] ≡ soughtNumbers (sought n)
+
+pub start-read : (n : Result Start) → Starts n (startOut n)
+start-read (done s) = record { same = refl; numbers = refl }
+start-read (refused why) = record { same = refused-back (Sought.Found 0 0 0) Sought.Refused why; numbers = refl }
 
 pub record Reads (n : Read) (r : Reading) : Type 0 where
   pub same : readOf r ≡ n

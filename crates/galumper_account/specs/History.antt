@@ -11,7 +11,7 @@ use lib.Ieee.{Float, binary64, fits}
 use Rattle.buffer_state.specs.Buffer.{Buffer, fresh}
 use Rattle.buffer_state.specs.Lent.{Lent, headOf, timesIn, tagsIn}
 use Rattle.buffer_state.specs.Refusals.{Result, refused, done, refusalNumber, stopNumber}
-use Rattle.buffer_state.specs.Run.{Answer, ok, fates, settings, ranges, accepted, taken, Entry, run, lastOf}
+use Rattle.buffer_state.specs.Run.{Answer, ok, fates, settings, ranges, accepted, taken, decoding, Entry, run, lastOf}
 use Rattle.account.specs.Made.{calls}
 use Rattle.account.specs.History as Account
 use Rattle.galumper.specs.declared.Answered.{Answered}
@@ -19,9 +19,10 @@ use Rattle.galumper.specs.declared.FlatAnswer.{FlatAnswer}
 use Rattle.galumper.specs.declared.FlatBatched.{FlatBatched}
 use Rattle.galumper.specs.declared.FlatHead.{FlatHead}
 use Rattle.galumper.specs.declared.FlatOffered.{FlatOffered}
+use Rattle.galumper.specs.declared.FlatStart.{FlatStart}
 use Rattle.galumper.specs.declared.Reading.{Reading}
 use Rattle.galumper.specs.Flat.{headIn, headOut}
-use Rattle.galumper_account.specs.Told.{Ask, append, remove, abort, setSegments, setSequence, setOffset, setWindowStart, setWindowEnd, readSettings, trackRanges, commonRanges, batch, walked, Told, numbersIn, made}
+use Rattle.galumper_account.specs.Told.{Ask, append, remove, abort, setSegments, setSequence, setOffset, setWindowStart, setWindowEnd, readSettings, trackRanges, commonRanges, batch, walked, seek, Told, numbersIn, made}
 use Rattle.galumper.proofs.galumper_lent_create.Reads as Create
 use Rattle.galumper.proofs.galumper_lent_append.Reads as Append
 use Rattle.galumper.proofs.galumper_lent_append_batch.Reads as Batch
@@ -36,6 +37,7 @@ use Rattle.galumper.proofs.galumper_lent_read_settings.Reads as ReadSettings
 use Rattle.galumper.proofs.galumper_lent_track_ranges.Reads as TrackRanges
 use Rattle.galumper.proofs.galumper_lent_common_ranges.Reads as CommonRanges
 use Rattle.galumper.proofs.galumper_lent_walked.Reads as Walked
+use Rattle.galumper.proofs.galumper_lent_seek.Reads as Seek
 
 -- ---- a buffer as a program holds it
 
@@ -121,6 +123,11 @@ pub data From : Held → List Told → Held → Type 0 where
       (c .head, (at-last times (c .times), (at-last tags (c .tags), (track, (room, tt)))))
       → From c ms t
       → From c (record { ask = walked track room; got = r } ∷ ms) t
+  by-seek : {c t : Held} {ms : List Told} (track : ℕ) (instant : ℤ) (times : RefT (List (List ℤ))) (tags : RefT (List (List ℕ))) (r : FlatStart) (κs : Lfts 2)
+      → Seek.Learnt κs (c .head, (at-last times (c .times), (at-last tags (c .tags), (track, (instant, tt))))) r
+      (c .head, (at-last times (c .times), (at-last tags (c .tags), (track, (instant, tt)))))
+      → From c ms t
+      → From c (record { ask = seek track instant; got = r } ∷ ms) t
 
 -- From a creation that was not refused: the kinds, the calls with their answers, the last buffer. What the arrays held before is any.
 pub data History : List ℕ → List Told → Held → Type 0 where
@@ -134,7 +141,7 @@ pub data History : List ℕ → List Told → Held → Type 0 where
 -- ---- the claim
 
 -- The numbers of a result of the run: of its refusal, 0 where there is none; of the one that stopped a batch, 0 where there is none, or how
--- many frames a walk took.
+-- many frames a walk took or a seek found to decode.
 abbrev pub resultNumbers : Result Answer → List ℕ
 resultNumbers (refused why) = refusalNumber why ∷ 0 ∷ []
 resultNumbers (done ok) = 0 ∷ 0 ∷ []
@@ -143,13 +150,14 @@ resultNumbers (done (settings r)) = 0 ∷ 0 ∷ []
 resultNumbers (done (ranges rs)) = 0 ∷ 0 ∷ []
 resultNumbers (done (accepted n stop ls)) = 0 ∷ stopNumber stop ∷ []
 resultNumbers (done (taken n)) = 0 ∷ n ∷ []
+resultNumbers (done (decoding s)) = 0 ∷ s .count ∷ []
 
 -- THE CLAIM about a history of exported calls.
 pub record Claim (kinds : List ℕ) (ms : List Told) (t : Held) : Type 0 where
   -- it is the plain run: results, last state, numbers given, account, lists kept
   pub claim : Account.Claim kinds (map made ms) (lentIn t)
   -- every refusal number that was answered is that of the run's refusal, and 0 where the run has none; every number of frames that a walk
-  -- took is the run's
+  -- took or a seek found to decode is the run's
   pub numbers : map (λ (m : Told). numbersIn (m .ask) (m .got)) ms
       ≡ map (λ (e : Entry). resultNumbers (e .result)) (run (fresh kinds) (calls (map made ms)))
   -- the buffer in the program's hands is the run's last one laid out, every bit of it

@@ -1,6 +1,7 @@
-// Tests of single values: integers, the limits of document 01's "Times and numbers", and a frame's end.
+// Tests of single values: integers, the limits of document 01's "Times and numbers", a frame's end, and a track's number.
 ghost use mathlib.Core.Path.{_≡_};
-ghost use mathlib.Core.Bool.{true};
+ghost use mathlib.Core.Bool.{true, _&&_};
+ghost use lib.Dec.{leb};
 ghost use lib.Signed.{leZ, ltZ};
 ghost use Rattle.seconds.specs.Seconds.{sameInt};
 ghost use Rattle.buffer_state.specs.Buffer.{endOf};
@@ -52,4 +53,13 @@ pub fn end_of(f: Frame) -> i64
     let p = f.pts;
     let d = f.duration as i64;
     p + d
+}
+
+// ---- tracks
+
+// Whether a track number is one of so many tracks.
+pub fn has_track(track: u32, tracks: usize) -> bool
+    ensures { λ r. ⌜ r ≡ (leb 1 track && leb track tracks) ⌝ }
+{
+    (1 <= track) & (track as usize <= tracks)
 }

@@ -7,9 +7,8 @@ use buffer_state::Refusal;
 use buffer_state::Tags;
 use buffer_state::Times;
 ghost use mathlib.Core.Path.{_≡_};
-ghost use mathlib.Core.Bool.{true, cond, _&&_};
+ghost use mathlib.Core.Bool.{true, cond};
 ghost use Prim.Native.Nat.{_+_, _-_, _%_, _<_, _≤_};
-ghost use lib.Dec.{leb};
 ghost use lib.ListN.{length, take, drop, getD, set};
 ghost use lib.Signed.{ltZ};
 ghost use Rattle.seconds.specs.Seconds.{sameInt};
@@ -512,12 +511,6 @@ fn common_bars(
 
 // ---- the calls
 
-fn has_track(h: Head, track: u32) -> bool
-    ensures { λ r. ⌜ r ≡ (leb 1 track && leb track (h .ntracks)) ⌝ }
-{
-    (1 <= track) & (track as usize <= h.ntracks)
-}
-
 // A track's ranges, written to a lent list of places [start, end]; the list is written only where all of them fit.
 pub fn track_ranges(h: Head, times: &Times, tags: &Tags, track: u32, list: &mut [[i64; 2]]) -> Count
     ensures { λ r. ⌜ Reported r (now (list .exit)) (trackRangesResult (length (now (list .entry))) track h (now (times .entry)) (now (tags .entry))) (now (list .entry)) ⌝ }
@@ -525,7 +518,7 @@ pub fn track_ranges(h: Head, times: &Times, tags: &Tags, track: u32, list: &mut 
     if !validation::well_formed(h, times, tags) {
         return Count::Refused(Refusal::IllFormed);
     }
-    if !has_track(h, track) {
+    if !limits::has_track(track, h.ntracks) {
         return Count::Refused(Refusal::NoTrack);
     }
     let mut spans = [[0i64; 2]; PLACES];
@@ -567,7 +560,7 @@ pub fn walked(h: Head, times: &Times, tags: &Tags, track: u32, room: usize) -> C
     if !validation::well_formed(h, times, tags) {
         return Count::Refused(Refusal::IllFormed);
     }
-    if !has_track(h, track) {
+    if !limits::has_track(track, h.ntracks) {
         return Count::Refused(Refusal::NoTrack);
     }
     let mut spans = [[0i64; 2]; PLACES];

@@ -5,7 +5,6 @@ ghost use Rattle.buffer_state.specs.Limits.{places};
 use crate::unread;
 use buffer_state::Frame;
 use buffer_state::Group;
-use buffer_state::Head;
 use buffer_state::Mode;
 use buffer_state::PLACES;
 use buffer_state::Setting;
@@ -14,6 +13,7 @@ use buffer_state::Tags;
 use buffer_state::Times;
 use buffer_state::Track;
 use buffer_state::WindowEnd;
+use slots::Slot;
 use text::Output;
 
 pub fn ok(out: &mut Output) {
@@ -79,6 +79,23 @@ pub fn batch(accepted: usize, stop: usize, out: &mut Output) {
 pub fn taken(n: usize, out: &mut Output) {
     text::put(b" taken ", out);
     text::number(n as u64, out);
+}
+
+// Where to start decoding: the target, the flagged frame, and how many frames to decode.
+pub fn start(target: usize, flagged: usize, count: usize, out: &mut Output) {
+    text::put(b" seek ", out);
+    text::number(target as u64, out);
+    text::put(b" ", out);
+    text::number(flagged as u64, out);
+    text::put(b" ", out);
+    text::number(count as u64, out);
+}
+
+// What to feed.
+pub fn fed(bytes: &[u8], out: &mut Output) {
+    text::put(b"ok feed ", out);
+    text::bytes(bytes, out);
+    text::put(b"\n", out);
 }
 
 // ---- the state
@@ -166,7 +183,17 @@ fn flag(on: bool, out: &mut Output) {
     }
 }
 
-fn frame(f: Frame, out: &mut Output) {
+// A frame's group, which stands beside its row where that has no room for it.
+fn group_of(f: Frame, place: usize, slot: Slot, out: &mut Output) {
+    if slot.beyond == place {
+        text::time(slot.group, out);
+    } else {
+        text::small(f.group, out);
+    }
+}
+
+// The frame at a place, counted from 1.
+fn frame(f: Frame, place: usize, slot: Slot, out: &mut Output) {
     text::put(b" (", out);
     text::number(f.track as u64, out);
     text::put(b",", out);
@@ -179,16 +206,16 @@ fn frame(f: Frame, out: &mut Output) {
     text::small(f.duration, out);
     flag(f.flagged, out);
     text::put(b",", out);
-    text::small(f.group, out);
+    group_of(f, place, slot, out);
     text::put(b")", out);
 }
 
-fn frames(times: &[[i64; 2]], tags: &[[u32; 5]], n: usize, out: &mut Output)
+fn frames(times: &[[i64; 2]], tags: &[[u32; 5]], n: usize, slot: Slot, out: &mut Output)
     requires { ⌜ (length (now times) ≡ places) × (length (now tags) ≡ places) ⌝ }
 {
     for i in 0..n {
         if i < PLACES {
-            frame(places::frame_at(times, tags, i), out);
+            frame(places::frame_at(times, tags, i), i + 1, slot, out);
         }
     }
 }
@@ -201,7 +228,8 @@ fn stored(n: usize) -> usize {
     PLACES
 }
 
-pub fn state(h: Head, times: &Times, tags: &Tags, out: &mut Output) {
+pub fn state(slot: Slot, times: &Times, tags: &Tags, out: &mut Output) {
+    let h = slot.head;
     let n = h.ntracks;
     let ts = h.tracks;
     text::put(b"ok state tracks=", out);
@@ -225,7 +253,7 @@ pub fn state(h: Head, times: &Times, tags: &Tags, out: &mut Output) {
     track(ts[3], 3, n, out);
     text::put(b" frames=", out);
     text::number(h.nframes as u64, out);
-    frames(times, tags, stored(h.nframes), out);
+    frames(times, tags, stored(h.nframes), slot, out);
     text::put(b"\n", out);
 }
 

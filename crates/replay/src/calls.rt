@@ -185,6 +185,23 @@ fn common_call(line: &[u8], w: Words) -> Parsed {
     })
 }
 
+fn seek_call(line: &[u8], w: Words) -> Parsed {
+    if w.count != 3 {
+        return Parsed::Unknown;
+    }
+    let Small::Is(track) = natural(word(line, w, 1)) else {
+        return Parsed::Unknown;
+    };
+    let Whole::Is(instant) = text::read::as_whole(word(line, w, 2)) else {
+        return Parsed::Unknown;
+    };
+    Parsed::Call(Call {
+        track,
+        pts: instant,
+        ..bare(call_rows::SEEK)
+    })
+}
+
 pub fn call_of(line: &[u8], w: Words) -> Parsed {
     let name = word(line, w, 0);
     if check::same(name, b"append") {
@@ -219,6 +236,9 @@ pub fn call_of(line: &[u8], w: Words) -> Parsed {
     }
     if check::same(name, b"walked") {
         return ranges_call(call_rows::WALKED, line, w);
+    }
+    if check::same(name, b"seek") {
+        return seek_call(line, w);
     }
     Parsed::Unknown
 }

@@ -5,6 +5,7 @@ ghost use Prim.Native.Nat.{_≤_};
 mod answers;
 mod batches;
 mod calls;
+mod feed_words;
 mod input;
 mod lump;
 mod marks;
@@ -172,6 +173,10 @@ fn on_session(
     }
     if check::same(name, b"segment") {
         segment::call(line, w, out);
+        return s;
+    }
+    if check::same(name, b"feed") {
+        feed_words::call(line, w, out);
         return s;
     }
     let slot = slot_calls::on_slot(slots::used(s), line, w, times, tags, out);

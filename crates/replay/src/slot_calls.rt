@@ -70,6 +70,9 @@ fn done(kind: u32, step: Step, fates: &[[u32; 2]], list: &[[i64; 2]], out: &mut 
     if kind == call_rows::WALKED {
         answers::taken(step.count, out);
     }
+    if kind == call_rows::SEEK {
+        answers::start(step.target, step.flagged, step.count, out);
+    }
 }
 
 fn told(kind: u32, step: Step, fates: &[[u32; 2]], list: &[[i64; 2]], out: &mut Output) {
@@ -190,8 +193,7 @@ fn state(slot: Slot, w: Words, times: &Times, tags: &Tags, out: &mut Output) {
         answers::none(out);
         return;
     }
-    let h = slot.head;
-    answers::state(h, times, tags, out);
+    answers::state(slot, times, tags, out);
 }
 
 fn poke(

@@ -407,13 +407,8 @@ fn poked_group(g: Group, name: &[u8], value: &[u8]) -> PokedGroup {
 // ---- the head in a slot
 
 fn poked_with(verdict: Verdict, slot: Slot, head: Head) -> Poked {
-    let sets = slot.sets;
-    let s = Slot {
-        held: slot.held,
-        head,
-        sets,
-        spare: slot.spare,
-    };
+    let mut s = slot;
+    s.head = head;
     Poked { verdict, slot: s }
 }
 
@@ -541,6 +536,8 @@ fn is_done(v: Verdict) -> bool {
     }
 }
 
+const GROUP: usize = 4; // the column of the tags that a frame's group is in
+
 // The column of the tags that a field is in; 5 where it is in none.
 fn tag_column(name: &[u8]) -> usize
     ensures { λ r. ⌜ r ≤ 5 ⌝ }
@@ -558,7 +555,7 @@ fn tag_column(name: &[u8]) -> usize
         return 3;
     }
     if check::same(name, b"group") {
-        return 4;
+        return GROUP;
     }
     5
 }
@@ -590,6 +587,50 @@ fn time_with(row: [i64; 2], column: usize, z: i64) -> [i64; 2]
     let mut out = row;
     out[column] = z;
     out
+}
+
+// A frame's group that its row has no room for stands beside the row, for one frame at a time.
+fn poke_beyond(slot: Slot, z: i64, at: usize) -> Poked
+    requires { ⌜ at < places ⌝ }
+{
+    if (slot.beyond == 0) | (slot.beyond == at + 1) {
+        let mut s = slot;
+        s.beyond = at + 1;
+        s.group = z;
+        return Poked {
+            verdict: Verdict::Done,
+            slot: s,
+        };
+    }
+    Poked {
+        verdict: Verdict::Declined,
+        slot,
+    }
+}
+
+// A group that is written to a row is no longer beside it.
+fn without_beyond(slot: Slot, at: usize) -> Slot
+    requires { ⌜ at < places ⌝ }
+{
+    let mut s = slot;
+    if s.beyond == at + 1 {
+        s.beyond = 0;
+    }
+    s
+}
+
+fn poke_frame_group(slot: Slot, value: &[u8], tags: &mut [[u32; 5]], at: usize) -> Poked
+    requires { ⌜ (length (now tags) ≡ places) × (at < places) ⌝ }
+{
+    match text::read::as_whole(value) {
+        Whole::Is(z) => {
+            if 4294967295 < z {
+                return poke_beyond(slot, z, at);
+            }
+            poke_tag(without_beyond(slot, at), value, tags, at, GROUP)
+        }
+        _ => poke_tag(slot, value, tags, at, GROUP),
+    }
 }
 
 // A number of a row is written where it could be read and there is a buffer.
@@ -635,6 +676,9 @@ fn poke_frame(
     let name = word(line, w, 3);
     let value = word(line, w, 4);
     let tag = tag_column(name);
+    if tag == GROUP {
+        return poke_frame_group(slot, value, tags, at);
+    }
     if tag < 5 {
         return poke_tag(slot, value, tags, at, tag);
     }

@@ -3,6 +3,7 @@ use mathlib.Core.Bool.{Bool, true, cond, _&&_, _||_}
 use mathlib.Core.List.{[], _∷_}
 use Prim.Native.Nat.{ℕ}
 use lib.Dec.{eqb}
+use lib.IntN.{pos}
 use lib.ListN.{getD}
 use Rattle.buffer_state.specs.declared.Head.{Head}
 use Rattle.buffer_state.specs.declared.Track.{Track}
@@ -22,6 +23,8 @@ slotOf h = record {
   head = h;
   sets = at 0 ∷ at 1 ∷ at 2 ∷ at 3 ∷ [];
   spare = zeroSeconds;
+  beyond = 0;
+  group = pos 0;
 }
   where
     at : ℕ → ℕ
@@ -31,14 +34,18 @@ slotOf h = record {
 abbrev pub togetherOf : ℕ → Bool
 togetherOf set = eqb set 0 || eqb set 7
 
--- the head alone says all that the slot holds: on each track the three are set together, and the double kept beside an unbounded
--- window end is plus zero
-abbrev pub holdsAll : Slot → Bool
-holdsAll slot =
+-- a head can hold what the slot holds beside it: on each track the three are set together, and the double kept beside an unbounded window
+-- end is plus zero
+abbrev pub headHolds : Slot → Bool
+headHolds slot =
     togetherOf (getD (slot .sets) 0 0)
     && (togetherOf (getD (slot .sets) 1 0)
     && (togetherOf (getD (slot .sets) 2 0)
     && (togetherOf (getD (slot .sets) 3 0) && sameDouble (slot .spare) zeroSeconds)))
+
+-- the head and the rows say all that the slot holds: no frame has a group beyond them either
+abbrev pub holdsAll : Slot → Bool
+holdsAll slot = eqb (slot .beyond) 0 && headHolds slot
 
 -- a head of nine tracks, which is not well-formed
 abbrev pub overfull : Head → Head
@@ -52,7 +59,7 @@ overfull h = record {
   settings = h .settings;
 }
 
--- the head of the slot where that says all, else one that is not well-formed either
+-- the head of the slot where nothing is beside it, else one that is not well-formed either
 abbrev pub handedOf : Slot → Head
 handedOf slot = cond (holdsAll slot) (slot .head) (overfull (slot .head))
 

@@ -2,7 +2,7 @@
 // the batch are lent beside them.
 ghost use mathlib.Core.Path.{_≡_};
 ghost use lib.ListN.{length};
-ghost use Rattle.slots.specs.Slots.{setOf, slotOf, togetherOf, holdsAll, handedOf, usedOf, withUsed};
+ghost use Rattle.slots.specs.Slots.{setOf, slotOf, togetherOf, headHolds, holdsAll, handedOf, usedOf, withUsed};
 use buffer_state::Head;
 use buffer_state::Tags;
 use buffer_state::Times;
@@ -10,13 +10,16 @@ use buffer_state::Track;
 
 pub const ALL: u8 = 7; // the three values of a track, a bit each
 
-// A buffer's head, if there is one, and beside it what pokes may leave and no Head can hold: for each track which of its three
-// values are set, and the double kept beside a window end that is unbounded.
+// A buffer's head, if there is one, and beside it what pokes may leave and neither a Head nor a row can hold: for each track which of its
+// three values are set, the double kept beside a window end that is unbounded, and a frame's group beyond 32 bits, with the frame's place
+// from 1 on, 0 where there is none.
 pub struct Slot {
     pub held: bool,
     pub head: Head,
     pub sets: [u8; 4],
     pub spare: f64,
+    pub beyond: usize,
+    pub group: i64,
 }
 
 // A batch, whose frames stand in the lines after it: the number of its own line, how many frames are still to come, how many rows are kept,
@@ -61,6 +64,8 @@ pub fn slot_of(head: Head) -> Slot
         head,
         sets,
         spare: 0.0,
+        beyond: 0,
+        group: 0,
     }
 }
 
@@ -105,9 +110,9 @@ fn together(set: u8) -> bool
     set == ALL
 }
 
-// Whether the head alone says all that the slot holds.
-fn holds(slot: Slot) -> bool
-    ensures { λ r. ⌜ r ≡ holdsAll slot ⌝ }
+// Whether a head can hold what the slot holds beside it.
+fn head_holds(slot: Slot) -> bool
+    ensures { λ r. ⌜ r ≡ headHolds slot ⌝ }
 {
     if !together(slot.sets[0]) {
         return false;
@@ -124,7 +129,17 @@ fn holds(slot: Slot) -> bool
     seconds::same_double(slot.spare, 0.0)
 }
 
-// The head handed to a call. What no Head can hold is not well-formed, and no more is a head of nine tracks.
+// Whether the head and the rows say all that the slot holds.
+fn holds(slot: Slot) -> bool
+    ensures { λ r. ⌜ r ≡ holdsAll slot ⌝ }
+{
+    if slot.beyond == 0 {
+        return head_holds(slot);
+    }
+    false
+}
+
+// The head handed to a call. What they cannot hold is not well-formed, and no more is a head of nine tracks.
 pub fn handed(slot: Slot) -> Head
     ensures { λ r. ⌜ r ≡ handedOf slot ⌝ }
 {

@@ -1,4 +1,4 @@
-// Numbers, doubles, fate lines and ranges as text: written to standard output here, to standard error in errors.rt, read from a word in
+// Numbers, doubles, bytes, fate lines and ranges as text: written to standard output here, to standard error in errors.rt, read from a word in
 // read.rt.
 pub mod errors;
 pub mod read;
@@ -60,6 +60,26 @@ pub fn double(x: f64, out: &mut Output) {
     put(b"0x", out);
     let bits = seconds::bits_of(x);
     written(io::print_hex(libc::STDOUT_FILENO, bits, 16), out);
+}
+
+fn byte(b: u8, out: &mut Output) {
+    written(io::print_hex(libc::STDOUT_FILENO, b as u64, 2), out);
+}
+
+fn byte_at(list: &[u8], i: usize, out: &mut Output) {
+    if i < list.len() {
+        byte(list[i], out);
+    }
+}
+
+// Two digits for each byte; no bytes are `-`.
+pub fn bytes(list: &[u8], out: &mut Output) {
+    if list.len() == 0 {
+        put(b"-", out);
+    }
+    for i in 0..list.len() {
+        byte_at(list, i, out);
+    }
 }
 
 fn fate(list: &[[u32; 2]], i: usize, out: &mut Output) {

@@ -112,6 +112,10 @@ impl Run {
                 self.lumps.begin_anew();
                 Ok(())
             }
+            Call::Feed(feed, initialization, segment) => {
+                Proved.feed(initialization, segment, *feed);
+                Ok(())
+            }
             Call::Batch(frames, lines) => self.batch(call, frames, *lines),
             Call::Poke(poke) => {
                 let kept = self.places.kept().ok_or(Why::NoBuffer)?;
@@ -173,6 +177,7 @@ impl Kept {
                 Proved.common_ranges(buffer, &mut list).map(drop)
             }
             Call::Walked(track, places) => Proved.walked(buffer, track, places).map(drop),
+            Call::Seek(track, instant) => Proved.seek(buffer, track, instant).map(drop),
             // The state is looked at; the others are not made on a buffer alone.
             _ => Ok(()),
         }
@@ -480,7 +485,7 @@ mod tests {
         let held = "create 0\nappend 1 0 0 100 1\nappend 1 200 100 100 0\n";
         let [held, read] = [
             "",
-            "settings\nranges 1\ncommon\nwalked 1 places=1\nwalked 1\nstate",
+            "settings\nranges 1\ncommon\nwalked 1 places=1\nwalked 1\nseek 1 250\nstate",
         ]
         .map(|calls| run(&format!("{held}{calls}")));
         assert_eq!(in_slot(&read, 1), in_slot(&held, 1));
@@ -506,10 +511,16 @@ mod tests {
     }
 
     #[test]
+    fn what_to_feed_needs_no_buffer() {
+        let run = run("feed init 0 0 00 -\nfeed segment 0 1 - 00\nfeed segment 0 2 - 00");
+        assert_eq!(reasons(&run), []);
+    }
+
+    #[test]
     fn calls_that_were_not_made() {
         let run = run("save\nrestore\npoke mode segments\nappend 1 0 0 1 1\n\
                        segment 1 1 1 1 1 1 -\nwalked 1\ncreate 0\nranges 2\nwindow-start -1\n\
-                       walked 2 places=0");
+                       walked 2 places=0\nseek 1 0\nseek 2 0\nbuffer 2\nseek 1 0");
         let wanted = [
             (1, Why::NoBuffer),
             (2, Why::NothingSaved),
@@ -520,6 +531,9 @@ mod tests {
             (8, Why::Refused(3)),
             (9, Why::Refused(6)),
             (10, Why::Refused(3)),
+            (11, Why::Refused(15)),
+            (12, Why::Refused(3)),
+            (14, Why::NoBuffer),
         ];
         assert_eq!(reasons(&run), wanted);
         assert_eq!(run.poked(), None);

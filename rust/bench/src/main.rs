@@ -4,7 +4,7 @@
 //! several rounds. The two take turns within a round, so that a busy moment hits both.
 //!
 //! `bench --reports` times the reports of long lines alone, `bench --groups` the walks by group,
-//! `bench --lumps` the segments that come in lumps.
+//! `bench --lumps` the segments that come in lumps, `bench --seeks` the seeks.
 //! `bench --write-segments FOLDER` times nothing and writes the segments that are timed into files.
 
 #![forbid(unsafe_code)]
@@ -17,6 +17,7 @@ mod lumps;
 mod measure;
 mod reports;
 mod rounds;
+mod seeks;
 mod segment;
 mod table;
 
@@ -36,7 +37,12 @@ fn main() -> ExitCode {
             println!("{}", table::report(&mut proved, &mut second));
             println!("{}", reports::report(&mut proved, &mut second));
             println!("{}", groups::report(&mut proved, &mut second));
-            print!("{}", lumps::report(&mut proved, &mut second));
+            println!("{}", lumps::report(&mut proved, &mut second));
+            print!("{}", seeks::report(&mut proved, &mut second));
+            ExitCode::SUCCESS
+        }
+        ["--seeks"] => {
+            print!("{}", seeks::report(&mut proved, &mut second));
             ExitCode::SUCCESS
         }
         ["--lumps"] => {
@@ -59,7 +65,9 @@ fn main() -> ExitCode {
             }
         },
         _ => {
-            eprintln!("usage: bench [--reports | --groups | --lumps | --write-segments FOLDER]");
+            eprintln!(
+                "usage: bench [--reports | --groups | --lumps | --seeks | --write-segments FOLDER]"
+            );
             ExitCode::FAILURE
         }
     }

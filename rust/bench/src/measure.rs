@@ -61,6 +61,9 @@ pub enum Case {
     /// A call on a store of 1,023 frames of some groups, with a random access point each so many of
     /// them, by which so many go.
     Walk(Walk, Grouping, usize, usize),
+    /// A seek into the last frame of a store of some groups, with a random access point each so many
+    /// frames, so many frames in all, and so many to decode.
+    Seek(Grouping, usize, usize, usize),
 }
 
 /// A call that may walk through groups.
@@ -339,6 +342,23 @@ impl<S: Subject> Runner<S> {
         median((0..CALLS).map(|_| time()).collect())
     }
 
+    /// The median time of a seek into the last frame of a store of groups.
+    fn seek(&mut self, grouping: Grouping, points: usize, frames: usize, count: usize) -> f64 {
+        let frame = |number| grouped(1, number, points as i64);
+        let state = self.in_groups(frames, frame, grouping);
+        let instant = frame(frames - 1).pts + i64::from(FRAME / 2);
+        let subject = &mut self.subject;
+        let mut time = || {
+            let start = Instant::now();
+            let said = black_box(subject.seek(black_box(&state), 1, instant));
+            let time = micros_since(start);
+            let told = said.map(|start| (start.target as usize, start.count));
+            assert_eq!(told, Ok((frames, count)), "where to start");
+            time
+        };
+        median((0..CALLS).map(|_| time()).collect())
+    }
+
     /// A buffer of one track with so many frames of some groups, to which nothing was appended since.
     fn in_groups(
         &mut self,
@@ -428,6 +448,9 @@ impl<S: Subject> Measure for Runner<S> {
             Case::Frames(way, tracks) => self.frames(way, tracks),
             Case::Report(report, line, places, frames) => self.report(report, line, places, frames),
             Case::Walk(walk, grouping, points, lines) => self.walk(walk, grouping, points, lines),
+            Case::Seek(grouping, points, frames, count) => {
+                self.seek(grouping, points, frames, count)
+            }
         }
     }
 }

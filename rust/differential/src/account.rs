@@ -58,6 +58,11 @@ impl Accounts {
         Ok(())
     }
 
+    /// Whether nothing was poked into the buffer in use, so that calls alone led to its state.
+    pub(crate) fn is_by_calls(&self) -> bool {
+        self.slots[self.in_use].is_some()
+    }
+
     /// Whether the frames without a fate line are those stored, if there is an account of them.
     pub(crate) fn balances(&self, state: &State) -> Option<bool> {
         let account = self.slots[self.in_use].as_ref()?;

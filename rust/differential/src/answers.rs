@@ -1,10 +1,13 @@
 //! Counting what the answers say: accepted and refused calls, causes, the doubles handed in, what
-//! became of batches, what the walks of reports and calls in the last group met, and how cut segments
-//! ended.
+//! became of batches, what the walks of reports, seeks, feeds and calls in the last group met, and how
+//! cut segments ended.
 
 mod batches;
 mod cuttings;
+mod feeds;
 mod groups;
+mod met;
+mod seeks;
 mod walks;
 
 use std::collections::BTreeMap;
@@ -13,14 +16,15 @@ use std::fmt::Write;
 use script::Call;
 use second::{micros, SECONDS_LIMIT};
 
+use crate::fed::Fed;
 use crate::last_group::LastGroup;
 use crate::lumps::cutting::Cutting;
+use crate::sought::Sought;
 use crate::told::fates;
 use crate::walk::Walk;
 use batches::Batches;
 use cuttings::Cuttings;
-use groups::Groups;
-use walks::Walks;
+use met::Met;
 
 /// A call of the paper, with the refusals and causes that it can give.
 struct Row {
@@ -37,7 +41,7 @@ const fn row(call: &'static str, refusals: &'static [usize], causes: &'static [u
     }
 }
 
-const ROWS: [Row; 15] = [
+const ROWS: [Row; 17] = [
     row("create", &[11], &[]),
     row("append", &[1, 2, 3, 4, 9, 7, 8], &[1, 2, 3, 4, 5]),
     row("batch", &[1, 13, 2], &[1, 2, 3, 4, 5]),
@@ -51,8 +55,10 @@ const ROWS: [Row; 15] = [
     row("ranges", &[1, 3, 10], &[]),
     row("common", &[1, 10], &[]),
     row("walked", &[1, 3], &[]),
+    row("seek", &[1, 3, 15], &[]),
     row(SEGMENT, &[12, 4, 10], &[]),
     row(LUMP, &[1, 13, 14, 12, 4, 10], &[]),
+    row("feed", &[], &[]),
 ];
 
 const SEGMENT: &str = "segment";
@@ -60,7 +66,7 @@ const SEGMENT: &str = "segment";
 const LUMP: &str = "lump";
 
 /// One more than the highest refusal.
-const REFUSALS: usize = 15;
+const REFUSALS: usize = 16;
 
 /// One more than the highest cause.
 const CAUSES: usize = 7;
@@ -126,8 +132,10 @@ pub struct Answers {
     causes: [[u64; CAUSES]; ROWS.len()],
     doubles: [u64; DOUBLES.len()],
     batches: Batches,
-    walks: Walks,
-    groups: Groups,
+    walks: Met<Walk>,
+    seeks: Met<Sought>,
+    feeds: Met<Fed>,
+    groups: Met<LastGroup>,
     cut: Cuttings,
     /// What a segment is answered whole, and what damaged: none for no refusal.
     damage: BTreeMap<[Option<u32>; 2], u64>,
@@ -196,6 +204,16 @@ impl Answers {
         self.walks.count(walk);
     }
 
+    /// Counts a seek on a track of a well-formed state.
+    pub(crate) fn seek(&mut self, sought: &Sought) {
+        self.seeks.count(sought);
+    }
+
+    /// Counts what was fed.
+    pub(crate) fn feed(&mut self, fed: &Fed) {
+        self.feeds.count(fed);
+    }
+
     /// Counts a call in the last group.
     pub(crate) fn last_group(&mut self, call: &LastGroup) {
         self.groups.count(call);
@@ -255,6 +273,8 @@ impl Answers {
         gaps.extend(missed.map(|((name, _), _)| format!("seconds, {name}: never")));
         gaps.extend(self.batches.gaps());
         gaps.extend(self.walks.gaps());
+        gaps.extend(self.seeks.gaps());
+        gaps.extend(self.feeds.gaps());
         gaps.extend(self.groups.gaps());
         gaps.extend(self.cut.gaps());
         let missed = DAMAGE
@@ -291,6 +311,8 @@ impl Answers {
         }
         text.push_str(&self.batches.tables());
         text.push_str(&self.walks.table());
+        text.push_str(&self.seeks.table());
+        text.push_str(&self.feeds.table());
         text.push_str(&self.groups.table());
         text.push_str(&self.cut.tables());
         text.push_str("\n| Segment, whole | Damaged | Times |\n|---|---|---|\n");

@@ -5,20 +5,24 @@ use second::State;
 
 use crate::account::Accounts;
 use crate::answers::Answers;
+use crate::fed::Fed;
 use crate::last_group::LastGroup;
 use crate::parting::Parting;
 use crate::singles::Singles;
+use crate::sought::Sought;
 use crate::walk::Walk;
 
 /// The calls that only read, and those that no buffer takes part in.
-const READING: [&str; 8] = [
+const READING: [&str; 10] = [
     "settings",
     "ranges",
     "common",
     "walked",
+    "seek",
     "segment",
     "lump",
     "lump-fresh",
+    "feed",
     "state",
 ];
 
@@ -78,6 +82,7 @@ impl<A: Subject, B: Subject> Pair<'_, A, B> {
         }
         self.same_states(&after, answers)?;
         as_in_the_last_group(call, &answer, &before, answers)?;
+        self.as_the_request_says(call, &answer, &after, answers)?;
         if answer.starts_with("ok") {
             as_singles(call, &answer, &before, &after)?;
             self.as_walk(call, &answer, &after, answers)?;
@@ -154,6 +159,38 @@ impl<A: Subject, B: Subject> Pair<'_, A, B> {
         }
         answers.walk(&walk);
         Ok(())
+    }
+
+    /// A seek or a feed that both answer alike is answered what the request's words give.
+    fn as_the_request_says(
+        &self,
+        call: &str,
+        answer: &str,
+        views: &[Option<State>; 2],
+        answers: &mut Answers,
+    ) -> Result<(), Words> {
+        let due = match (Call::read(call), &views[0]) {
+            (Some(Call::Seek(track, instant)), Some(state)) => {
+                let Some(sought) = Sought::of(state, track, instant) else {
+                    return Ok(()); // refused 1 or 3
+                };
+                if sought.lacks_point() && self.accounts.is_by_calls() {
+                    return Err(of_both(format!("calls have led to {sought:?}")));
+                }
+                answers.seek(&sought);
+                sought.answer()
+            }
+            (Some(Call::Feed(feed, initialization, segment)), _) => {
+                let fed = Fed::of(feed, &initialization, &segment);
+                answers.feed(&fed);
+                fed.answer()
+            }
+            _ => return Ok(()),
+        };
+        match answer == due {
+            true => Ok(()),
+            false => Err([answer.to_string(), format!("as the request says: {due}")]),
+        }
     }
 
     /// Books the answer, and draws up the account where the script asks for the state.

@@ -1,9 +1,12 @@
-//! Counting the branches of the steps, of batches, of the reader of segments and of that of their
-//! lumps, and the clauses of the well-formed test.
+//! Counting the branches of the steps, of batches, of seeks, of what to feed, of the reader of segments
+//! and of that of their lumps, and the clauses of the well-formed test.
 
 use std::fmt::Write;
 
-use second::{BatchBranch, Branch, Fault, Framing, LumpBranch, Parent, SegmentBranch, Trace};
+use second::{
+    BatchBranch, Branch, Fault, FeedBranch, Framing, LumpBranch, Parent, SeekBranch, SegmentBranch,
+    Trace,
+};
 
 /// Where in a call a branch is taken.
 #[derive(Clone, Copy, Debug, PartialEq, Eq)]
@@ -67,6 +70,8 @@ pub struct Coverage {
     /// Breaks in the pass in which step 1 has just set the offset, outside a batch and in one.
     breaks_after_start: [u64; 2],
     batches: [u64; BatchBranch::ALL.len()],
+    seeks: [u64; SeekBranch::ALL.len()],
+    feeds: [u64; FeedBranch::ALL.len()],
     framings: [[u64; Parent::ALL.len()]; Framing::ALL.len()],
     segments: [u64; SegmentBranch::ALL.len()],
     lumps: [u64; LumpBranch::ALL.len()],
@@ -82,6 +87,8 @@ impl Default for Coverage {
             faults: [0; Fault::ALL.len()],
             breaks_after_start: [0; 2],
             batches: [0; BatchBranch::ALL.len()],
+            seeks: [0; SeekBranch::ALL.len()],
+            feeds: [0; FeedBranch::ALL.len()],
             framings: [[0; Parent::ALL.len()]; Framing::ALL.len()],
             segments: [0; SegmentBranch::ALL.len()],
             lumps: [0; LumpBranch::ALL.len()],
@@ -120,6 +127,14 @@ impl Trace for Coverage {
         self.batches[branch as usize] += 1;
     }
 
+    fn seek(&mut self, branch: SeekBranch) {
+        self.seeks[branch as usize] += 1;
+    }
+
+    fn feed(&mut self, branch: FeedBranch) {
+        self.feeds[branch as usize] += 1;
+    }
+
     fn fault(&mut self, fault: Fault) {
         self.faults[fault as usize] += 1;
     }
@@ -151,16 +166,9 @@ impl Coverage {
         if self.breaks_after_start.contains(&0) {
             gaps.push("step 3 break straight after step 1: never".to_string());
         }
-        let missed = BatchBranch::ALL
-            .iter()
-            .zip(self.batches)
-            .filter(|(_, times)| *times == 0);
-        gaps.extend(missed.map(|(branch, _)| format!("batch, {}: never", branch.text())));
-        let missed = Fault::ALL
-            .iter()
-            .zip(self.faults)
-            .filter(|(_, times)| *times == 0);
-        gaps.extend(missed.map(|(fault, _)| format!("{}: never", fault.text())));
+        for kind in self.kinds() {
+            gaps.extend(kind.missed());
+        }
         for (framing, counts) in Framing::ALL.iter().zip(&self.framings) {
             let missed = Parent::ALL
                 .iter()
@@ -170,16 +178,6 @@ impl Coverage {
                 missed.map(|(parent, _)| format!("{} in {}: never", framing.text(), parent.text())),
             );
         }
-        let missed = SegmentBranch::ALL
-            .iter()
-            .zip(self.segments)
-            .filter(|(_, times)| *times == 0);
-        gaps.extend(missed.map(|(branch, _)| format!("segment, {}: never", branch.text())));
-        let missed = LumpBranch::ALL
-            .iter()
-            .zip(self.lumps)
-            .filter(|(_, times)| *times == 0);
-        gaps.extend(missed.map(|(branch, _)| format!("lump, {}: never", branch.text())));
         gaps
     }
 
@@ -204,13 +202,8 @@ impl Coverage {
             text,
             "| step 3 break straight after step 1 | {single} | - | {in_batch} | - | - |"
         );
-        text.push_str("\n| Branch of a batch | Times |\n|---|---|\n");
-        for (branch, times) in BatchBranch::ALL.iter().zip(self.batches) {
-            let _ = writeln!(text, "| {} | {times} |", branch.text());
-        }
-        text.push_str("\n| Fault of a state | Times |\n|---|---|\n");
-        for (fault, times) in Fault::ALL.iter().zip(self.faults) {
-            let _ = writeln!(text, "| {} | {times} |", fault.text());
+        for kind in self.kinds() {
+            text.push_str(&kind.table());
         }
         text.push_str("\n| Box, by its parent");
         for parent in Parent::ALL {
@@ -221,13 +214,81 @@ impl Coverage {
             let cells = counts.map(|times| times.to_string()).join(" | ");
             let _ = writeln!(text, "| {} | {cells} |", framing.text());
         }
-        text.push_str("\n| Branch of the reader of segments | Times |\n|---|---|\n");
-        for (branch, times) in SegmentBranch::ALL.iter().zip(self.segments) {
-            let _ = writeln!(text, "| {} | {times} |", branch.text());
-        }
-        text.push_str("\n| Branch of the reader of lumps | Times |\n|---|---|\n");
-        for (branch, times) in LumpBranch::ALL.iter().zip(self.lumps) {
-            let _ = writeln!(text, "| {} | {times} |", branch.text());
+        text
+    }
+
+    /// The counts that have one number a case.
+    fn kinds(&self) -> [Kind<'_>; 6] {
+        [
+            Kind {
+                name: "batch, ",
+                head: "Branch of a batch",
+                cases: BatchBranch::ALL
+                    .iter()
+                    .map(|branch| branch.text())
+                    .collect(),
+                times: &self.batches,
+            },
+            Kind {
+                name: "seek, ",
+                head: "Branch of a seek",
+                cases: SeekBranch::ALL.iter().map(|branch| branch.text()).collect(),
+                times: &self.seeks,
+            },
+            Kind {
+                name: "feed, ",
+                head: "Branch of what to feed",
+                cases: FeedBranch::ALL.iter().map(|branch| branch.text()).collect(),
+                times: &self.feeds,
+            },
+            Kind {
+                name: "",
+                head: "Fault of a state",
+                cases: Fault::ALL.iter().map(|fault| fault.text()).collect(),
+                times: &self.faults,
+            },
+            Kind {
+                name: "segment, ",
+                head: "Branch of the reader of segments",
+                cases: SegmentBranch::ALL
+                    .iter()
+                    .map(|branch| branch.text())
+                    .collect(),
+                times: &self.segments,
+            },
+            Kind {
+                name: "lump, ",
+                head: "Branch of the reader of lumps",
+                cases: LumpBranch::ALL.iter().map(|branch| branch.text()).collect(),
+                times: &self.lumps,
+            },
+        ]
+    }
+}
+
+/// Counts that have one number a case.
+struct Kind<'a> {
+    /// What stands before a case that was missed.
+    name: &'static str,
+    /// What stands over the cases in their table.
+    head: &'static str,
+    /// The cases, in words.
+    cases: Vec<&'static str>,
+    times: &'a [u64],
+}
+
+impl Kind<'_> {
+    /// The cases that were never reached.
+    fn missed(&self) -> impl Iterator<Item = String> + '_ {
+        let cases = self.cases.iter().zip(self.times);
+        let missed = cases.filter(|(_, times)| **times == 0);
+        missed.map(|(case, _)| format!("{}{case}: never", self.name))
+    }
+
+    fn table(&self) -> String {
+        let mut text = format!("\n| {} | Times |\n|---|---|\n", self.head);
+        for (case, times) in self.cases.iter().zip(self.times) {
+            let _ = writeln!(text, "| {case} | {times} |");
         }
         text
     }

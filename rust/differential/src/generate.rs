@@ -2,7 +2,7 @@
 
 use second::{quotient, FRAME_PLACES, LONGEST_DURATION, OFFERED_LIMIT, RESULT_LIMIT, TRACK_PLACES};
 
-use crate::writer::{word, Writer};
+use crate::writer::{word, Writer, PAST_A_BYTE};
 
 /// Times as offered, at and around their limits.
 const OFFERED: [i64; 13] = [
@@ -38,19 +38,17 @@ const RESULTS: [i64; 13] = [
     -RESULT_LIMIT,
 ];
 
-/// No track, but track 1 to whoever cuts its number to a byte.
-const PAST_A_BYTE: u32 = 257;
-
 /// The script of a seed, call by call. In every other one, appends that follow each other are
 /// joined to batches, whatever it is aimed at.
 pub fn script(seed: u64) -> Vec<String> {
     let mut writer = Writer::new(seed);
     match seed % 100 {
-        0..=11 => mixed(&mut writer),
-        12..=15 => groups(&mut writer),
-        16..=18 => walks(&mut writer),
-        19..=24 => batches(&mut writer),
-        25..=39 => overlaps(&mut writer),
+        0..=9 => mixed(&mut writer),
+        10..=13 => groups(&mut writer),
+        14..=16 => walks(&mut writer),
+        17..=20 => seeks(&mut writer),
+        21..=26 => batches(&mut writer),
+        27..=39 => overlaps(&mut writer),
         40..=53 => sequence(&mut writer),
         54..=62 => windows(&mut writer),
         63..=68 => seconds(&mut writer),
@@ -166,6 +164,61 @@ fn walks(writer: &mut Writer) {
         }
         writer.walk();
     }
+}
+
+/// Groups among each other and frames shown in another order than they are decoded, where decoding
+/// starts for instants around them, and what to feed.
+fn seeks(writer: &mut Writer) {
+    writer.create_some();
+    for _ in 0..writer.rng.between(1, 6) {
+        match writer.rng.between(1, 10) {
+            1..=2 => writer.line_in_another_order(),
+            3..=4 => writer.frames_of_one_time(),
+            5 => writer.batch_of_a_segment(),
+            6..=8 => {
+                for _ in 0..writer.rng.between(1, 12) {
+                    writer.append_anywhere();
+                }
+            }
+            9 => writer.append_on(),
+            _ => writer.remove(),
+        }
+        if writer.rng.percent(50) {
+            writer.line("abort");
+        }
+        some_seeks(writer);
+        if writer.rng.percent(40) {
+            seeks_in_a_poked_state(writer);
+        }
+        writer.feed();
+    }
+}
+
+/// Seeks around the frames that were offered.
+fn some_seeks(writer: &mut Writer) {
+    for _ in 0..writer.rng.between(4, 12) {
+        writer.seek();
+    }
+}
+
+/// Seeks in a state that no call leaves: of the first frames some have lost their flag, or are of
+/// another group, or have a number above all others.
+fn seeks_in_a_poked_state(writer: &mut Writer) {
+    writer.line("save");
+    writer.line("poke group 9");
+    writer.line("poke last-number 9000");
+    for _ in 0..writer.rng.between(1, 6) {
+        let frame = writer.rng.pick(&[1, 1, 2, 3, 4]);
+        let (field, number) = match writer.rng.between(1, 10) {
+            1..=4 => ("flag", 0),
+            5..=7 => ("group", writer.rng.between(0, 3)),
+            8..=9 => ("number", 9000 - frame),
+            _ => ("p", writer.instant().abs()),
+        };
+        writer.line(format!("poke frame {frame} {field} {number}"));
+    }
+    some_seeks(writer);
+    writer.line("restore");
 }
 
 /// A removal of a random access point whose follower is shown before it, and so goes by the walk.
@@ -499,7 +552,7 @@ fn poke(writer: &mut Writer) {
 /// Each call with the same chance, also with lists too short and with times out of order.
 fn every_call(writer: &mut Writer) {
     let fates = writer.rng.pick(&["", "", "", " fates=1023"]);
-    match writer.rng.between(1, 14) {
+    match writer.rng.between(1, 15) {
         1..=2 => {
             let track = writer.track();
             writer.line(format!("append {track} 100 100 100 1{fates}"));
@@ -512,6 +565,7 @@ fn every_call(writer: &mut Writer) {
         9..=10 => writer.report(),
         11 => writer.segment(),
         12..=13 => writer.batch_of_any_size(),
+        14 => writer.feed(),
         _ => writer.append_on(),
     }
 }
@@ -590,7 +644,10 @@ fn refusals(writer: &mut Writer) {
                 let line = writer.rng.pick(&[
                     "walked",
                     "walked 1 fates=1",
-                    "seek 1 0",
+                    "seek 1",
+                    "seek 1 0.5",
+                    "feed init 0 0 -",
+                    "feed segment -1 0 - -",
                     "room 1 0",
                     "batch 2",
                     "batch 1\nframe 1 0 0 100",
@@ -630,6 +687,7 @@ fn full(writer: &mut Writer) {
         let time = place * step;
         writer.append(track as u32, time, time, 100, place % group == 0);
     }
+    some_seeks(writer);
     if writer.rng.percent(40) {
         most_lines(writer);
     }

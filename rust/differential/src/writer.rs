@@ -1,12 +1,28 @@
 //! Writing the calls of a script, with just enough memory to write calls that mean something.
 
-use second::{quotient, LONGEST_DURATION, SECONDS_LIMIT, TRACK_PLACES};
+use script::digits;
+use second::{quotient, LONGEST_DURATION, RESULT_LIMIT, SECONDS_LIMIT, TRACK_PLACES};
 
 use crate::rng::Rng;
 use crate::segments;
 
 /// Durations around the usual 100.
 const DURATIONS: [u32; 9] = [100, 100, 100, 100, 1, 50, 99, 101, 400];
+
+/// No track, but track 1 to whoever cuts its number to a byte.
+pub(crate) const PAST_A_BYTE: u32 = 257;
+
+/// Instants that are not among the first few: at the limits, and where only a cut number is among them.
+const FAR: [i64; 8] = [
+    i64::MIN,
+    i64::MIN,
+    i64::MAX,
+    i64::MAX,
+    RESULT_LIMIT - 1,
+    RESULT_LIMIT,
+    (1 << 32) + 50,
+    50 - (1 << 32),
+];
 
 /// Bad frames, refused 3 or 4.
 const BAD: [&str; 8] = [
@@ -29,6 +45,8 @@ pub(crate) struct Writer {
     pub(crate) tracks: u32,
     /// The last decode time offered on each track, and its duration.
     last: [(i64, i64); TRACK_PLACES],
+    /// The frames offered: track, presentation time and duration.
+    offered: Vec<(u32, i64, i64)>,
 }
 
 impl Writer {
@@ -38,6 +56,7 @@ impl Writer {
             calls: Vec::new(),
             tracks: 0,
             last: [(0, 0); TRACK_PLACES],
+            offered: Vec::new(),
         }
     }
 
@@ -128,6 +147,16 @@ impl Writer {
         }
     }
 
+    /// Frames of a track that are shown at one time, decoded one after the other.
+    pub(crate) fn frames_of_one_time(&mut self) {
+        let (track, time) = (self.track(), self.instant().abs());
+        for place in 0..self.rng.between(2, 4) {
+            let duration = self.rng.pick(&DURATIONS);
+            let flagged = place == 0 || self.rng.percent(30);
+            self.append(track, time, time + place, duration, flagged);
+        }
+    }
+
     /// Joins appends that follow each other to batches.
     pub(crate) fn join_appends(&mut self) {
         let mut calls = std::mem::take(&mut self.calls).into_iter().peekable();
@@ -160,6 +189,7 @@ impl Writer {
         self.line(line);
         self.tracks = tracks;
         self.last = [(0, 0); TRACK_PLACES];
+        self.offered.clear();
     }
 
     /// A buffer of some tracks, mostly few.
@@ -176,9 +206,11 @@ impl Writer {
     pub(crate) fn append(&mut self, track: u32, pts: i64, dts: i64, duration: u32, flagged: bool) {
         let flag = u8::from(flagged);
         self.line(format!("append {track} {pts} {dts} {duration} {flag}"));
+        let duration = i64::from(duration);
         if let Some(last) = self.last.get_mut(track as usize - 1) {
-            *last = (dts, i64::from(duration));
+            *last = (dts, duration);
         }
+        self.offered.push((track, pts, duration));
     }
 
     /// A frame at or near where the track's decode time goes on, with the steps that are nearly
@@ -261,8 +293,10 @@ impl Writer {
     }
 
     pub(crate) fn report(&mut self) {
-        if self.rng.percent(25) {
-            return self.walk();
+        match self.rng.between(1, 100) {
+            1..=20 => return self.walk(),
+            21..=45 => return self.seek(),
+            _ => {}
         }
         let mut line = match self.rng.percent(60) {
             true => format!("ranges {}", self.track()),
@@ -291,6 +325,53 @@ impl Writer {
         self.line(format!("walked {track}{places}"));
     }
 
+    /// Where to start decoding, mostly for an instant in a frame that was offered, or at its end.
+    pub(crate) fn seek(&mut self) {
+        let (track, instant) = match self.rng.between(1, 20) {
+            1..=14 if !self.offered.is_empty() => {
+                let (track, pts, duration) = self.rng.pick(&self.offered);
+                let edges = [0, 0, duration / 2, duration - 1, duration, -1];
+                (track, pts + self.rng.pick(&edges))
+            }
+            15..=16 => (self.track(), self.rng.pick(&FAR)),
+            17 => {
+                let unknown = [0, self.tracks + 1, PAST_A_BYTE, u32::MAX];
+                (self.rng.pick(&unknown), self.instant())
+            }
+            _ => (self.track(), self.instant()),
+        };
+        self.line(format!("seek {track} {instant}"));
+    }
+
+    /// What to feed of a few bytes.
+    pub(crate) fn feed(&mut self) {
+        let [initialization, segment] = [(); 2].map(|()| self.bytes());
+        let [start, end] = [(); 2].map(|()| self.place(segment.len() as u64));
+        let of = self.rng.pick(&["init", "segment", "segment", "segment"]);
+        let [initialization, segment] = [initialization, segment].map(|bytes| digits(&bytes));
+        self.line(format!(
+            "feed {of} {start} {end} {initialization} {segment}"
+        ));
+    }
+
+    fn bytes(&mut self) -> Vec<u8> {
+        let count = self.rng.pick(&[0, 1, 2, 3, 8, 20]);
+        (0..count).map(|_| self.rng.next() as u8).collect()
+    }
+
+    /// A place in a segment of so many bytes, at its end, beyond, or where only its last 32 bits are in
+    /// the segment.
+    fn place(&mut self, length: u64) -> u64 {
+        let within = self.rng.between(0, length as i64) as u64;
+        match self.rng.between(1, 10) {
+            1..=6 => within,
+            7 => length,
+            8 => length + self.rng.pick(&[1, 1, 2, 20]),
+            9 => (1 << 32) + within,
+            _ => u64::MAX,
+        }
+    }
+
     /// A segment, well-made or damaged, whole and in two lumps.
     pub(crate) fn segment(&mut self) {
         let segment = segments::any(&mut self.rng);
@@ -314,7 +395,8 @@ impl Writer {
             88..=96 => self.report(),
             97 => self.line("save"),
             98 => self.line("restore"),
-            99 => self.segment(),
+            99 if self.rng.percent(50) => self.segment(),
+            99 => self.feed(),
             _ => self.line("state"),
         }
     }

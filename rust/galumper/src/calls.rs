@@ -19,7 +19,8 @@ pub struct Reading {
 }
 
 /// Whether the library that is linked belongs to this crate. A creation asks it too; a program that
-/// loads buffers, or lists a segment or takes a lump before it creates one, asks it first.
+/// loads buffers, or lists a segment, takes a lump or feeds a decoder before it creates one, asks it
+/// first.
 pub fn matches() -> bool {
     // SAFETY: the functions take nothing, and answer a number each.
     let (abi, size) = unsafe { (foreign::galumper_abi(), foreign::galumper_size()) };

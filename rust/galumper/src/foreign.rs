@@ -8,7 +8,7 @@ use crate::names::Kind;
 use crate::reader::LumpReader;
 
 /// The number of the layout and of the functions below; the library has its own to compare.
-pub const ABI: u32 = 7;
+pub const ABI: u32 = 8;
 
 /// What a call answers: its refusal, 0 for none, and how many lines, ranges or frames it wrote, or
 /// of the walk, how many frames it takes.
@@ -47,6 +47,23 @@ pub struct Batched {
 pub struct Lumped {
     pub reader: LumpReader,
     pub answer: Answer,
+}
+
+/// What a seek answers: its refusal, 0 for none; the number of the frame that covers the instant and
+/// that of the random access point; and how many frames there are to decode.
+#[repr(C)]
+pub struct Start {
+    pub refusal: u32,
+    pub target: u32,
+    pub flagged: u32,
+    pub count: usize,
+}
+
+/// Where the bytes to feed start in what was lent, and how many they are.
+#[repr(C)]
+pub struct Part {
+    pub start: usize,
+    pub length: usize,
 }
 
 /// What reading the settings answers.
@@ -138,6 +155,22 @@ extern "C" {
         track: u32,
         places: usize,
     ) -> Answer;
+    pub fn galumper_lent_seek(
+        head: Head,
+        times: &Times,
+        tags: &Tags,
+        track: u32,
+        instant: i64,
+    ) -> Start;
+    pub fn galumper_lent_feed(
+        initialization: *const u8,
+        initialization_length: usize,
+        segment: *const u8,
+        segment_length: usize,
+        whole: u32,
+        start: usize,
+        end: usize,
+    ) -> Part;
     pub fn galumper_lent_list_segment(
         of: SegmentTrack,
         segment: *const u8,

@@ -25,12 +25,14 @@
 mod batch;
 mod buffer;
 mod calls;
+mod feed;
 mod foreign;
 mod listing;
 mod lists;
 mod lump;
 mod names;
 mod reader;
+mod seek;
 mod segment;
 
 pub use batch::{Batch, BATCH, BATCH_FATES};
@@ -39,9 +41,11 @@ pub use buffer::{
     TRACKS,
 };
 pub use calls::{create, matches, Reading};
+pub use feed::{feed, Feed};
 pub use listing::{ListedFrame, SegmentTrack};
 pub use lists::{held, Fate, Range, FATES, RANGES};
 pub use lump::LUMP;
 pub use names::{Cause, Kind, Mode, Refusal};
 pub use reader::LumpReader;
+pub use seek::Start;
 pub use segment::list_segment;

@@ -39,6 +39,8 @@ pub enum Refusal {
     LentSize = 13,
     /// A movie fragment box of more than 65,536 bytes in a segment that comes in lumps.
     LargeFragment = 14,
+    /// No frame of the track covers the instant, or no random access point leads to the one that does.
+    NoStart = 15,
 }
 
 impl Refusal {
@@ -58,6 +60,7 @@ impl Refusal {
         Self::Malformed,
         Self::LentSize,
         Self::LargeFragment,
+        Self::NoStart,
     ];
 
     /// Its number, which is the same in every language.
@@ -89,6 +92,7 @@ impl fmt::Display for Refusal {
             Self::Malformed => "the segment is not well-formed",
             Self::LentSize => "what is lent has a size that the call does not take",
             Self::LargeFragment => "a movie fragment is too large for lumps",
+            Self::NoStart => "nowhere to start decoding",
         })
     }
 }

@@ -61,6 +61,7 @@ fn refused(spoilt: &Buffer) {
     assert_eq!(buffer.common_ranges(&mut list), Err(ill));
     for track in [0, 1] {
         assert_eq!(buffer.walked(track, RANGES), Err(ill));
+        assert_eq!(buffer.seek(track, 0), Err(ill));
     }
     assert_eq!(*buffer, *spoilt);
     assert_eq!((fates, list), ([FATE; FATES], [RANGE; RANGES]));
@@ -130,6 +131,8 @@ fn a_track_past_a_byte() {
         assert_eq!(reported, Err(Refusal::NoTrack), "{track}");
         let walked = buffer.walked(track, RANGES);
         assert_eq!(walked, Err(Refusal::NoTrack), "{track}");
+        let sought = buffer.seek(track, 0);
+        assert_eq!(sought, Err(Refusal::NoTrack), "{track}");
     }
     assert_eq!(buffer, held());
 }

@@ -3,8 +3,8 @@
 use std::thread;
 
 use galumper::{
-    Buffer, Fate, Kind, ListedFrame, LumpReader, Mode, Offered, Range, SegmentTrack, BATCH,
-    BATCH_FATES, FATES, LUMP, PLACES, RANGES,
+    feed, Buffer, Fate, Feed, Kind, ListedFrame, LumpReader, Mode, Offered, Range, SegmentTrack,
+    BATCH, BATCH_FATES, FATES, LUMP, PLACES, RANGES,
 };
 
 /// What a thread needs for any call on a buffer and for a whole segment, with the few kilobytes of its
@@ -43,6 +43,16 @@ fn full() -> Box<Buffer> {
         buffer.times[place][0] = (place * 101 % 256) as i64 * 40_000;
         buffer.tags[place][3] = (place * 613 % PLACES) as u32 * 4096 + 1;
         buffer.tags[place][4] = (place * 211 % PLACES) as u32 * 4096;
+    }
+    buffer
+}
+
+/// The same in one group, each track with one random access point, its first frame.
+fn led() -> Box<Buffer> {
+    let mut buffer = full();
+    for place in 0..PLACES {
+        buffer.tags[place][1] = u32::from(place % 256 == 0);
+        buffer.tags[place][4] = 0;
     }
     buffer
 }
@@ -87,13 +97,18 @@ fn on_a_stack(bytes: usize, calls: impl FnOnce() + Send + 'static) {
 
 #[test]
 fn every_call_on_a_small_stack() {
-    let mut buffer = full();
+    let (mut buffer, led) = (full(), led());
     on_a_stack(STACK, move || {
         let (mut fates, mut list) = (vec![Fate::default(); FATES], vec![Range::default(); RANGES]);
         assert_eq!(buffer.track_ranges(1, &mut list), Ok(256));
         assert_eq!(buffer.common_ranges(&mut list), Ok(256));
         assert_eq!(buffer.walked(1, RANGES), Ok(256));
         assert_eq!(buffer.walked(4, 100), Ok(101));
+        let last = led.times[PLACES - 1][0];
+        assert_eq!(led.seek(4, last).map(|start| start.count), Ok(256));
+        assert_eq!(buffer.seek(4, last).map(|start| start.count), Ok(1));
+        let part = Feed::Part { start: 8, end: 64 };
+        assert_eq!(feed(&[], SEGMENT, part), &SEGMENT[8..]);
         assert_eq!(buffer.set_mode(Mode::Sequence), Ok(()));
         assert_eq!(buffer.set_mode(Mode::Segments), Ok(()));
         assert_eq!(buffer.set_offset(0.0), Ok(()));

@@ -1,11 +1,11 @@
 //! Reading a call of a script.
 
-use second::{Mode, Offered, SegmentTrack, BATCH_LINES, FRAME_PLACES, LUMP_BYTES};
+use second::{Feed, Mode, Offered, SegmentTrack, BATCH_LINES, FRAME_PLACES, LUMP_BYTES};
 
 use crate::lines::LONGEST_LINE;
 use crate::lump::{Lump, LONGEST_BUFFER};
 use crate::poke::Poke;
-use crate::words::{bytes, flag, mode, natural, seconds, whole};
+use crate::words::{bytes, flag, mode, natural, place, seconds, whole};
 
 /// A call, with the lengths of the lists lent to it or asked about.
 #[derive(Clone, Debug, PartialEq)]
@@ -36,12 +36,16 @@ pub enum Call {
     Common(usize),
     /// Counts the frames that a track's report takes, into a list of so many places.
     Walked(u32, usize),
+    /// Finds where to start decoding for a track and an instant.
+    Seek(u32, i64),
     /// Lists a track's frames from a segment.
     Segment(SegmentTrack, Vec<u8>, usize),
     /// Takes a lump of a segment, and where it is the last lists a track's frames.
     Lump(Lump),
     /// Makes the reader of lumps a fresh one.
     LumpFresh,
+    /// Picks what to feed, of initialization bytes and a segment.
+    Feed(Feed, Vec<u8>, Vec<u8>),
     /// Prints the state.
     State,
     /// Takes a slot in use.
@@ -112,10 +116,16 @@ impl Call {
             ["ranges", track] => Self::Ranges(natural(track)?, length),
             ["common"] => Self::Common(length),
             ["walked", track] => Self::Walked(natural(track)?, length),
+            ["seek", track, instant] => Self::Seek(natural(track)?, whole(instant)?),
             ["segment", ref asked @ .., segment] => {
                 Self::Segment(segment_track(asked)?, bytes(segment)?, length)
             }
             ["lump-fresh"] => Self::LumpFresh,
+            ["feed", of, start, end, initialization, segment] => Self::Feed(
+                fed(of, start, end)?,
+                bytes(initialization)?,
+                bytes(segment)?,
+            ),
             ["state"] => Self::State,
             ["buffer", "1"] => Self::Buffer(0),
             ["buffer", "2"] => Self::Buffer(1),
@@ -178,6 +188,16 @@ fn length(said: Option<&str>, default: usize, longest: usize) -> Option<usize> {
     match said {
         Some(count) => whole(count).filter(|&count| count <= longest),
         None => Some(default),
+    }
+}
+
+/// What is fed, by its words. The initialization is fed whole, whatever the place.
+fn fed(of: &str, start: &str, end: &str) -> Option<Feed> {
+    let (start, end) = (place(start)?, place(end)?);
+    match of {
+        "init" => Some(Feed::Initialization),
+        "segment" => Some(Feed::Part { start, end }),
+        _ => None,
     }
 }
 
@@ -274,6 +294,80 @@ mod tests {
             "walked 1 places=-1",
             "walked places=7",
             "walked 1 places=7 places=7",
+        ] {
+            assert_eq!(Call::read(bad), None, "{bad}");
+        }
+    }
+
+    #[test]
+    fn a_track_and_an_instant() {
+        for (line, track, instant) in [
+            ("seek 1 0", 1, 0),
+            ("seek 0 -0", 0, 0),
+            ("seek 4 -007", 4, -7),
+            ("seek 99999999999 9223372036854775807", u32::MAX, i64::MAX),
+            ("seek 1 -9223372036854775808", 1, i64::MIN),
+        ] {
+            assert_eq!(Call::read(line), Some(Call::Seek(track, instant)), "{line}");
+        }
+        for bad in [
+            "seek",
+            "seek 1",
+            "seek 1 0 0",
+            "seek -1 0",
+            "seek 1 +0",
+            "seek 1 0.5",
+            "seek 1 0x0000000000000000",
+            "seek 1 9223372036854775808",
+            "seek 1 -9223372036854775809",
+            "seek 1 0 places=1",
+            "seek 1  0",
+        ] {
+            assert_eq!(Call::read(bad), None, "{bad}");
+        }
+    }
+
+    #[test]
+    fn what_to_feed_in_digits() {
+        let feed = |feed, initialization: &[u8], segment: &[u8]| {
+            Some(Call::Feed(feed, initialization.to_vec(), segment.to_vec()))
+        };
+        let part = |start, end| Feed::Part { start, end };
+        for (line, wanted) in [
+            ("feed init 0 0 - -", feed(Feed::Initialization, &[], &[])),
+            (
+                "feed init 9 18446744073709551615 00ff 1a",
+                feed(Feed::Initialization, &[0x00, 0xff], &[0x1a]),
+            ),
+            ("feed segment 0 1 - 1a", feed(part(0, 1), &[], &[0x1a])),
+            ("feed segment 7 007 1a -", feed(part(7, 7), &[0x1a], &[])),
+            (
+                "feed segment 0 18446744073709551616 - -",
+                feed(part(0, usize::MAX), &[], &[]),
+            ),
+            (
+                "feed segment 18446744073709551615 0 00 01",
+                feed(part(usize::MAX, 0), &[0x00], &[0x01]),
+            ),
+        ] {
+            assert_eq!(Call::read(line), wanted, "{line}");
+        }
+        for bad in [
+            "feed",
+            "feed init",
+            "feed init - -",
+            "feed init 0 - -",
+            "feed init 0 0 -",
+            "feed init 0 0 - - -",
+            "feed init x 0 - -",
+            "feed init 0 -1 - -",
+            "feed initialization 0 0 - -",
+            "feed part 0 0 - -",
+            "feed segment -1 0 - -",
+            "feed segment 0 0 0 -",
+            "feed segment 0 0 - 0F",
+            "feed segment 0 0 - - places=1",
+            "feed segment 0 0 - - buffer=1",
         ] {
             assert_eq!(Call::read(bad), None, "{bad}");
         }
@@ -409,7 +503,7 @@ mod tests {
             "segment 1 2 3 4 5 6",
             "segment 1 2 3 4 5 4294967296 -",
             "segment 1 2 3 4 5 -6 -",
-            "seek 1 0",
+            "room 1 0",
             "append 1 0 0 100",
             "append 1 0 0 100 2",
             "append 1 0 0 100 1 0",

@@ -30,7 +30,7 @@ pub use lines::lines;
 pub use lump::Lump;
 pub use place::Place;
 pub use poke::{FrameField, Poke, TrackField};
-pub use print::{bits, state_line};
+pub use print::{bits, digits, state_line};
 pub use proved::Proved;
 pub use session::Session;
 pub use subject::{Declined, Second, Subject};

@@ -1,10 +1,18 @@
-//! How states and doubles are written in answers.
+//! How states, doubles and bytes are written in answers.
 
 use second::{Maybe, Mode, Seconds, State, Track};
 
 /// A double by its bits.
 pub fn bits(double: f64) -> String {
     format!("{:#018x}", double.to_bits())
+}
+
+/// Bytes as a script has them: hexadecimal digits, or `-` for none.
+pub fn digits(bytes: &[u8]) -> String {
+    match bytes {
+        [] => "-".to_string(),
+        _ => bytes.iter().map(|byte| format!("{byte:02x}")).collect(),
+    }
 }
 
 /// The answer to `state`. Counts that a poke made too high are cut to the places there are.

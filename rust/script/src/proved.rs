@@ -4,8 +4,8 @@ use std::array;
 
 use galumper::{Buffer, Fate, Kind, ListedFrame, LumpReader, Range, Refusal, Track, LUMP};
 use second::{
-    End, Frame, Head, Maybe, Mode, Offered, Reading, Seconds, SegmentTrack, Settings, State,
-    WindowEnd, TRACK_PLACES,
+    End, Feed, Frame, Head, Maybe, Mode, Offered, Reading, Seconds, SegmentTrack, Settings, Start,
+    State, WindowEnd, TRACK_PLACES,
 };
 
 use crate::batch::Batch;
@@ -46,6 +46,13 @@ fn track_there(of: SegmentTrack) -> galumper::SegmentTrack {
         duration: of.duration,
         size: of.size,
         flags: of.flags,
+    }
+}
+
+fn feed_there(feed: Feed) -> galumper::Feed {
+    match feed {
+        Feed::Initialization => galumper::Feed::Initialization,
+        Feed::Part { start, end } => galumper::Feed::Part { start, end },
     }
 }
 
@@ -147,6 +154,15 @@ impl Subject for Proved {
         numbered(buffer.walked(track, places))
     }
 
+    fn seek(&mut self, buffer: &Self::State, track: u32, instant: i64) -> Result<Start, u32> {
+        let start = numbered(buffer.seek(track, instant))?;
+        Ok(Start {
+            target: start.target,
+            flagged: start.flagged,
+            count: start.count,
+        })
+    }
+
     fn list_segment(
         &mut self,
         of: SegmentTrack,
@@ -166,6 +182,10 @@ impl Subject for Proved {
         list: &mut [ListedFrame],
     ) -> Result<usize, u32> {
         numbered(reader.take_lump(track_there(of), buffer, lump, last, list))
+    }
+
+    fn feed<'a>(&mut self, initialization: &'a [u8], segment: &'a [u8], feed: Feed) -> &'a [u8] {
+        galumper::feed(initialization, segment, feed_there(feed))
     }
 
     fn view(&self, buffer: &Self::State) -> State {

@@ -1,6 +1,6 @@
 //! A session: two slots for buffers, one saved state, one reader of lumps, and the lists that are lent.
 
-use second::{Reading, WindowEnd};
+use second::{Feed, Reading, Start, WindowEnd};
 
 use crate::batch::{row_of, Batch};
 use crate::call::Call;
@@ -8,7 +8,7 @@ use crate::lent::{touched, Lent};
 use crate::lines::is_silent;
 use crate::lump::{Lump, LumpBuffer};
 use crate::place::Place;
-use crate::print::{bits, state_line};
+use crate::print::{bits, digits, state_line};
 use crate::subject::{Declined, Subject};
 
 /// Numbers that no call writes, neither in fate lines nor in ranges nor for a listed frame.
@@ -115,6 +115,7 @@ impl<'a, S: Subject> Session<'a, S> {
                 self.ranges.answer(result, "ok ranges", stretch)
             }
             Call::Walked(track, places) => taken(subject.walked(slot.as_ref()?, track, places)),
+            Call::Seek(track, instant) => sought(subject.seek(slot.as_ref()?, track, instant)),
             Call::Segment(of, segment, length) => {
                 let result = subject.list_segment(of, &segment, self.rows.lend(length));
                 self.rows.answer(result, "ok samples", row)
@@ -123,6 +124,13 @@ impl<'a, S: Subject> Session<'a, S> {
             Call::LumpFresh => {
                 self.reader = S::Reader::default();
                 done(Ok(()))
+            }
+            Call::Feed(feed, initialization, segment) => {
+                let part = subject.feed(&initialization, &segment, feed);
+                match feed {
+                    Feed::Initialization => fed(part, &initialization),
+                    Feed::Part { .. } => fed(part, &segment),
+                }
             }
             Call::State => state_line(&subject.view(slot.as_ref()?)),
             Call::Buffer(number) => {
@@ -177,6 +185,21 @@ fn taken(result: Result<usize, u32>) -> String {
         Ok(frames) => format!("ok taken {frames}"),
         Err(refusal) => done(Err(refusal)),
     }
+}
+
+fn sought(result: Result<Start, u32>) -> String {
+    match result {
+        Ok(start) => format!("ok seek {} {} {}", start.target, start.flagged, start.count),
+        Err(refusal) => done(Err(refusal)),
+    }
+}
+
+/// What is fed of some bytes. Bytes that do not lie among these are a copy, which no right answer is.
+fn fed(part: &[u8], of: &[u8]) -> String {
+    let (within, lent) = (part.as_ptr_range(), of.as_ptr_range());
+    let copied = within.start < lent.start || lent.end < within.end;
+    let word = if copied { " copied" } else { "" };
+    format!("ok feed {}{word}", digits(part))
 }
 
 fn settings(result: Result<Reading, u32>) -> String {
@@ -391,6 +414,79 @@ mod tests {
     }
 
     #[test]
+    fn where_to_start_decoding() {
+        // Store order 1, 3, 2, 4, of which 3 and 4 are of the group after the abort.
+        let script = "seek 1 0\ncreate 0 1\nseek 1 0\nappend 1 0 0 100 1\nappend 1 500 150 100 0\n\
+                      abort\nappend 1 100 50 100 1\nappend 1 200 200 100 0\n\
+                      seek 1 99\nseek 1 599\nseek 1 250\nseek 1 300\nseek 1 -1\nseek 2 0\nseek 3 0\n\
+                      seek 1 9223372036854775807\npoke frame 1 flag 0\nseek 1 500\nseek 1 150\n\
+                      poke tracks 5\nseek 6 0";
+        let wanted = [
+            "none",
+            "ok",
+            "refused 15",
+            "ok fates",
+            "ok fates",
+            "ok",
+            "ok fates",
+            "ok fates",
+            "ok seek 1 1 1",
+            "ok seek 2 1 2",
+            "ok seek 4 3 2",
+            "refused 15",
+            "refused 15",
+            "refused 15",
+            "refused 3",
+            "refused 15",
+            "ok",
+            "refused 15",
+            "ok seek 3 3 1",
+            "ok",
+            "refused 1",
+        ];
+        assert_eq!(answers(script), wanted);
+        assert_eq!(answers_of(&mut Proved, script), wanted);
+    }
+
+    #[test]
+    fn what_to_feed_needs_no_state() {
+        let script = "feed init 0 0 00ff1a -\nfeed init 9 1 - 00\nfeed segment 0 3 - 00ff1a\n\
+                      feed segment 1 2 99 00ff1a\nfeed segment 3 3 99 00ff1a\nfeed segment 0 4 99 00ff1a\n\
+                      feed segment 2 4 99 00ff1a\nfeed segment 2 1 99 00ff1a\n\
+                      feed segment 0 18446744073709551615 - 00\n\
+                      feed segment 18446744073709551615 18446744073709551615 99 -\nfeed segment 0 0 - -";
+        let wanted = [
+            "ok feed 00ff1a",
+            "ok feed -",
+            "ok feed 00ff1a",
+            "ok feed ff",
+            "ok feed -",
+            "ok feed -",
+            "ok feed -",
+            "ok feed -",
+            "ok feed -",
+            "ok feed -",
+            "ok feed -",
+        ];
+        assert_eq!(answers(script), wanted);
+        assert_eq!(answers_of(&mut Proved, script), wanted);
+    }
+
+    #[test]
+    fn a_copy_is_told() {
+        let lent = [0x00, 0xff, 0x1a];
+        for (start, end) in [(0, 3), (1, 2), (0, 0), (3, 3)] {
+            let told = digits(&lent[start..end]);
+            assert_eq!(fed(&lent[start..end], &lent), format!("ok feed {told}"));
+        }
+        let copy = lent;
+        assert_eq!(fed(&copy, &lent), "ok feed 00ff1a copied");
+        assert_eq!(fed(&[], &lent), "ok feed - copied");
+        assert_eq!(fed(&lent, &lent[1..]), "ok feed 00ff1a copied");
+        assert_eq!(fed(&lent, &lent[..2]), "ok feed 00ff1a copied");
+    }
+
+    #[test]
     fn groups() {
         let script = "poke group 1\ncreate 0\npoke group 4294967294\nabort\n\
                       append 1 0 0 100 1\nabort\nstate\npoke frame 1 group 7\nstate\n\
@@ -424,7 +520,7 @@ mod tests {
 
     #[test]
     fn calls_that_are_not_built() {
-        assert_eq!(answers("seek 1 0\nroom 1 0"), ["unknown", "unknown"]);
+        assert_eq!(answers("room 1 0\ncompare"), ["unknown", "unknown"]);
     }
 
     #[test]

@@ -4,8 +4,9 @@ use std::fmt::Debug;
 use std::num::TryFromIntError;
 
 use second::{
-    CutHeader, Fate, LumpFragment, LumpPlace, LumpReader, Maybe, Mode, Offered, Reading, Refusal,
-    Row, SegmentTrack, State, Stretch, Trace, FRAME_PLACES, LUMP_BYTES, TRACK_PLACES,
+    CutHeader, Fate, Feed, LumpFragment, LumpPlace, LumpReader, Maybe, Mode, Offered, Reading,
+    Refusal, Row, SegmentTrack, Start, State, Stretch, Trace, FRAME_PLACES, LUMP_BYTES,
+    TRACK_PLACES,
 };
 
 use crate::batch::Batch;
@@ -78,6 +79,8 @@ pub trait Subject {
     ) -> Result<usize, u32>;
     /// Counts the frames that a track's report takes, into a list of so many places.
     fn walked(&mut self, state: &Self::State, track: u32, places: usize) -> Result<usize, u32>;
+    /// Finds where to start decoding for a track and an instant.
+    fn seek(&mut self, state: &Self::State, track: u32, instant: i64) -> Result<Start, u32>;
     /// Lists a track's frames from a segment. No buffer takes part in it.
     fn list_segment(
         &mut self,
@@ -96,6 +99,8 @@ pub trait Subject {
         last: bool,
         list: &mut [Self::Row],
     ) -> Result<usize, u32>;
+    /// Picks what to feed, of initialization bytes and a segment. No buffer takes part in it.
+    fn feed<'a>(&mut self, initialization: &'a [u8], segment: &'a [u8], feed: Feed) -> &'a [u8];
 
     /// The state as it lies, in the words of `second`; not a call of the buffer.
     fn view(&self, state: &Self::State) -> State;
@@ -226,6 +231,10 @@ impl<T: Trace> Subject for Second<T> {
         numbered(second::walked(state, track, places))
     }
 
+    fn seek(&mut self, state: &State, track: u32, instant: i64) -> Result<Start, u32> {
+        numbered(second::seek_traced(state, track, instant, &mut self.trace))
+    }
+
     fn list_segment(
         &mut self,
         of: SegmentTrack,
@@ -258,6 +267,10 @@ impl<T: Trace> Subject for Second<T> {
             list,
             &mut self.trace,
         ))
+    }
+
+    fn feed<'a>(&mut self, initialization: &'a [u8], segment: &'a [u8], feed: Feed) -> &'a [u8] {
+        second::feed_traced(initialization, segment, feed, &mut self.trace)
     }
 
     fn view(&self, state: &State) -> State {

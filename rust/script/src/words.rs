@@ -14,8 +14,17 @@ pub(crate) fn whole<N: TryFrom<i128>>(word: &str) -> Option<N> {
 /// A track, a kind or a count of frames: a number beyond 32 bits names none that is there, and is read
 /// as the largest.
 pub(crate) fn natural(word: &str) -> Option<u32> {
+    up_to(word, u32::MAX)
+}
+
+/// A place in bytes, likewise.
+pub(crate) fn place(word: &str) -> Option<usize> {
+    up_to(word, usize::MAX)
+}
+
+fn up_to<N: TryFrom<i128>>(word: &str, largest: N) -> Option<N> {
     let digits = !word.is_empty() && word.bytes().all(|digit| digit.is_ascii_digit());
-    whole(word).or_else(|| digits.then_some(u32::MAX))
+    whole(word).or_else(|| digits.then_some(largest))
 }
 
 /// `1` or `0`.

@@ -12,7 +12,7 @@ pub type Stretch = [i64; 2];
 pub fn track_ranges(state: &State, track: u32, list: &mut [Stretch]) -> Result<usize, Refusal> {
     check(state)?;
     state.head.track_index(track)?;
-    hand_out(&covered(frames_of(state, track)), list)
+    hand_out(&covered(state.frames_of(track)), list)
 }
 
 /// Writes the ranges that all tracks cover in rising order; gives their count.
@@ -21,7 +21,7 @@ pub fn common_ranges(state: &State, list: &mut [Stretch]) -> Result<usize, Refus
     let common = state
         .head
         .track_numbers()
-        .map(|track| covered(frames_of(state, track)))
+        .map(|track| covered(state.frames_of(track)))
         .reduce(|ones, others| shared(&ones, &others))
         .unwrap_or_default();
     hand_out(&common, list)
@@ -33,16 +33,11 @@ pub fn common_ranges(state: &State, list: &mut [Stretch]) -> Result<usize, Refus
 pub fn walked(state: &State, track: u32, places: usize) -> Result<usize, Refusal> {
     check(state)?;
     state.head.track_index(track)?;
-    let frames = frames_of(state, track);
+    let frames = state.frames_of(track);
     Ok(match covered(frames).get(places) {
         Some([start, _]) => 1 + frames.iter().filter(|frame| frame.pts < *start).count(),
         None => frames.len(),
     })
-}
-
-/// A track's frames, in store order.
-fn frames_of(state: &State, track: u32) -> &[Frame] {
-    &state.frames[state.places_of(track)]
 }
 
 /// Refusal 10, or the ranges and nothing past them.

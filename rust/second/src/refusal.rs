@@ -32,6 +32,8 @@ pub enum Refusal {
     LentSize = 13,
     /// A movie fragment box of over 65,536 bytes, in a segment that comes in lumps.
     LargeFragment = 14,
+    /// No frame covers the instant, or no random access point of its group leads to the one that does.
+    NoStart = 15,
 }
 
 impl Refusal {

@@ -30,6 +30,11 @@ impl State {
         start..end
     }
 
+    /// A track's frames, in store order.
+    pub(crate) fn frames_of(&self, track: u32) -> &[Frame] {
+        &self.frames[self.places_of(track)]
+    }
+
     /// Puts a frame in, after its equals in decode time, as its number is the highest; gives its
     /// place. There must be room.
     pub(crate) fn insert(&mut self, frame: Frame) -> usize {

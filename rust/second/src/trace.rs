@@ -1,5 +1,5 @@
-//! The branches of append, batch, remove, the reader of segments and that of their lumps, told to
-//! whoever wants to count them.
+//! The branches of append, batch, remove, seek, feed, the reader of segments and that of their lumps,
+//! told to whoever wants to count them.
 
 use crate::fault::Fault;
 use crate::named::named;
@@ -14,6 +14,12 @@ pub trait Trace {
 
     /// A branch of a batch is taken. The branches of its appends are told as those of any append.
     fn batch(&mut self, _branch: BatchBranch) {}
+
+    /// A branch of a seek is taken.
+    fn seek(&mut self, _branch: SeekBranch) {}
+
+    /// A branch of what to feed is taken.
+    fn feed(&mut self, _branch: FeedBranch) {}
 
     /// A box is read, or malformed, in its parent.
     fn framed(&mut self, _parent: Parent, _framing: Framing) {}
@@ -157,6 +163,48 @@ named! {
         Whole,
         /// stopped at a refused frame
         Stopped,
+    }
+}
+
+named! {
+    /// A branch of a seek. Of frames that cover the instant two are compared at a time, in store order.
+    SeekBranch {
+        /// 15, no frame covers the instant
+        NoneCovers,
+        /// two cover, the next is presented later
+        NextPresentedLater,
+        /// two cover, the former is presented later
+        FormerPresentedLater,
+        /// two cover from one time on, the next has the greater number
+        NextNumberedHigher,
+        /// two cover from one time on, the former has the greater number
+        FormerNumberedHigher,
+        /// the target is flagged
+        TargetFlagged,
+        /// the walk leads back to a flagged frame
+        WalksBack,
+        /// the walk goes past an unflagged frame of another group
+        PastOther,
+        /// the walk goes past a flagged frame of another group
+        PastPoint,
+        /// 15, no flagged frame of the group at or before the target
+        NoPoint,
+    }
+}
+
+named! {
+    /// A branch of what to feed.
+    FeedBranch {
+        /// the initialization
+        Initialization,
+        /// a part of the segment
+        Part,
+        /// a part of no bytes
+        EmptyPart,
+        /// a place that overruns the segment
+        Overruns,
+        /// a place whose start is above its end
+        StartAboveEnd,
     }
 }
 

@@ -1,10 +1,10 @@
 //! Each clause of "Well-formed state", broken alone.
 
 use second::{
-    abort, append, append_batch, common_ranges, create, quotient, read_settings, remove, set_mode,
-    set_offset, set_window_end, set_window_start, track_ranges, walked, well_formed, Fault, Maybe,
-    Mode, Offered, Refusal, State, BATCH_LINES, FRAME_PLACES, LONGEST_DURATION, OFFERED_LIMIT,
-    RESULT_LIMIT,
+    abort, append, append_batch, common_ranges, create, quotient, read_settings, remove, seek,
+    set_mode, set_offset, set_window_end, set_window_start, track_ranges, walked, well_formed,
+    Fault, Maybe, Mode, Offered, Refusal, State, BATCH_LINES, FRAME_PLACES, LONGEST_DURATION,
+    OFFERED_LIMIT, RESULT_LIMIT,
 };
 
 const BEYOND: i64 = RESULT_LIMIT + 1;
@@ -110,6 +110,7 @@ fn refusals(state: &State) -> Vec<Option<Refusal>> {
         track_ranges(state, 1, &mut ranges).err(),
         common_ranges(state, &mut ranges).err(),
         walked(state, 1, 0).err(),
+        seek(state, 1, 0).err(),
     ];
     if said.iter().all(Option::is_some) {
         assert!(states.iter().all(|after| after == state), "a state moved");

@@ -40,7 +40,7 @@ returns c =
     let row = a .t1 in
     let asked : l .of-lines .result ≡ ofLines (getD row 0 0) (getD row 4 0) = l .of-lines .ensures ∙ ap (ofLines (getD row 0 0)) (l .before .wide .ensures) in
     let own : c .inside .result ≡ leb (firstFrame row + frameCount row) (a .frames) = c .inside .ensures ∙ (λ i. leb (f .first-frame .ensures i + n .frame-count .ensures i) (a .frames)) in
-    λ i. leb (getD row 0 0) 11 && (leb (asked i) (a .room) && own i)
+    λ i. leb (getD row 0 0) 12 && (leb (asked i) (a .room) && own i)
 
 pub row-fits-spec : {M : Type 1} → statement M
 row-fits-spec =

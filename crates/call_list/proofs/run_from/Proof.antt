@@ -1,7 +1,7 @@
 -- What holds after the first i calls; a turn adds one.
 use mathlib.Core.Path.{refl}
-use mathlib.Core.List.{List, [], _∷_}
-use Prim.Native.Nat.{ℕ, suc, _+_, _-_, _≤_, _<_}
+use mathlib.Core.List.{List, []}
+use Prim.Native.Nat.{ℕ, suc, _+_, _-_, _*_, _^_, _≤_, _<_}
 use native.Mathlib.Numerals.{add-one}
 use native.Mathlib.Omega.{arith}
 use lib.ListN.{length, getD, set}
@@ -12,8 +12,8 @@ use Rattle.call_rows.specs.Encoded.{ofLines, ofRanges}
 use Rattle.call_rows.specs.Replies.{lent}
 use Rattle.call_list.specs.Listed.{firstFrame, frameCount, listsOf}
 use Rattle.call_list.proofs.ListedLaws.{filled-inside}
-use Rattle.call_list.proofs.LoopLaws.{Room, room, Sofar, sofar-none, lines-room, ranges-room, frames-room, turn, ended}
-use borrow.Author.Needs.{needs}
+use Rattle.call_list.proofs.LoopLaws.{Room, room, numbersOf, Sofar, sofar-none, lines-room, ranges-room, frames-room, turn, ended}
+use borrow.Author.Needs.{needs, scaled-fits}
 use Rattle.call_list.proofs.run_from.Statement.{statement}
 use Rattle.call_list.proofs.run_from.Tie as tie
 
@@ -32,6 +32,10 @@ fit c = room _ _ _ _ _ (c .pre .1)
 lists-fit : (c : tie.Start Inv-loop μ-loop)
     → Fits w64 (length (c .args .calls .now)) × Fits w64 (length (c .args .lines .now)) × Fits w64 (length (c .args .list .now))
 lists-fit c = (search needs, search needs, search needs)
+
+-- owning the list of answers tells that its bytes fit
+answers-fit : (c : tie.Start Inv-loop μ-loop) → length (c .args .answers .now) * 48 < 2 ^ 63
+answers-fit c = search needs
 
 -- a place for this call in each list
 record Places (c : tie.In-loop Inv-loop μ-loop) : Type 0 where
@@ -82,7 +86,7 @@ turned : (c : tie.After-readings Inv-loop μ-loop) →
     let t = k .call-at .result in
     Sofar (a .calls .now) (a .stamps .now) (a .seconds .now) (a .frames .now) (bufferIn (lent (a .start) (a .times .now) (a .tags .now)))
     (listsOf (a .answers .now) (a .lines .now) (a .list .now) (a .readings .now) (a .times .now) (a .tags .now))
-    (listsOf (set (o .answers) (o .i) (t .refusal ∷ t .count ∷ t .accepted ∷ t .stop ∷ [])) (k .call-at .last .1 .1 .1 .1 .1 .1 .1 .0) (k .call-at .last .1 .1 .1 .1 .1 .1 .1 .1 .1 .0) (n .note-reading .last .1 .1 .0)
+    (listsOf (set (o .answers) (o .i) (numbersOf t)) (k .call-at .last .1 .1 .1 .1 .1 .1 .1 .0) (k .call-at .last .1 .1 .1 .1 .1 .1 .1 .1 .1 .0) (n .note-reading .last .1 .1 .0)
     (k .call-at .last .1 .1 .1 .1 .1 .0) (k .call-at .last .1 .1 .1 .1 .1 .1 .0))
     (t .head) (o .at + ofLines (getD (row p) 0 0) (t .count)) (o .placed + ofRanges (getD (row p) 0 0) (t .count)) (n .note-reading .result) (suc (o .i))
 turned c =
@@ -125,7 +129,10 @@ call-at-requires c κs =
     (lines-here l, ranges-here l, frames-here l)
 
 mul-t24 : tie.Need-mul-t24 Inv-loop μ-loop
-mul-t24 c = search needs
+mul-t24 c =
+    let l = c .before .before .before .before .before .before .before .before .before .before in
+    let s = l .before .before in
+    scaled-fits _ _ 48 (omega (arith, l .loop-test .taken, fit s .answers)) (answers-fit s)
 
 slice-set-from-answers : tie.Need-slice-set-from-answers Inv-loop μ-loop
 slice-set-from-answers c = places (c .before .before .before .before .before .before .before .before .before .before) .answers

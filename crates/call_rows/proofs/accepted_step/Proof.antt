@@ -1,11 +1,9 @@
 -- By cases of the answer.
 use mathlib.Core.Path.{_≡_, sym, ap, _∙_}
 use Prim.Native.Nat.{ℕ}
-use lib.Ieee.{ofBits}
 use Rattle.buffer_state.specs.declared.Accepted.{Accepted}
 use Rattle.buffer_state.specs.declared.Accepted.the-variants.{Done, Refused}
-use Rattle.call_rows.specs.declared.Step.{Step}
-use Rattle.call_rows.specs.Replies.{noDoubles, plainStep, acceptedStep}
+use Rattle.call_rows.specs.Replies.{plainStep, withAccepted, acceptedStep}
 use borrow.Author.Needs.{needs}
 use Rattle.call_rows.proofs.accepted_step.Statement.{statement}
 use Rattle.call_rows.proofs.accepted_step.Tie as tie
@@ -16,31 +14,34 @@ enum-known-answer c = search needs
 stop-number-requires : tie.Need-stop-number-requires
 stop-number-requires c κs = search needs
 
+plain-step-requires : tie.Need-plain-step-requires
+plain-step-requires c κs = search needs
+
 enum-known-answer-2 : tie.Need-enum-known-answer-2
 enum-known-answer-2 c = search needs
 
 number-of-requires : tie.Need-number-of-requires
 number-of-requires c κs = search needs
 
-plain-step-requires : tie.Need-plain-step-requires
-plain-step-requires c κs = search needs
+plain-step-requires-2 : tie.Need-plain-step-requires-2
+plain-step-requires-2 c κs = search needs
 
 returns : tie.Need-returns
-unfolding ofBits
 returns c =
-    let k = c .before in
-    let s = k .before .before .before in
-    let g = k .before .answer .given in
+    let p = c .before .before in
+    let n = p .before in
+    let k = n .before .before in
+    let s = k .before .before in
+    let g = k .answer .given in
     let e : Done (g .0 .0) (g .0 .1 .0) (g .0 .1 .1 .0) ≡ s .args .answer = sym (g .1) in
-    let told : ℕ → Step = λ n. record { refusal = 0; count = g .0 .1 .0; accepted = g .0 .0; stop = n; doubles = noDoubles; head = s .args .h } in
-    ap told (c .stop-number .ensures) ∙ ap (λ (a : Accepted). acceptedStep a (s .args .h)) e
+    (λ i. withAccepted (g .0 .0) (n .stop-number .ensures i) (p .plain-step .ensures i)) ∙ ap (λ (a : Accepted). acceptedStep a (s .args .h)) e
 
 returns-2 : tie.Need-returns-2
 returns-2 c =
     let k = c .before .before in
     let s = k .before .before .before in
     let e : Refused (k .before .answer2 .given .0 .0) ≡ s .args .answer = sym (k .before .answer2 .given .1) in
-    c .plain-step .ensures ∙ ap (λ (n : ℕ). plainStep n 0 (s .args .h)) (c .before .number-of .ensures) ∙ ap (λ (a : Accepted). acceptedStep a (s .args .h)) e
+    c .plain-step2 .ensures ∙ ap (λ (n : ℕ). plainStep n 0 (s .args .h)) (c .before .number-of .ensures) ∙ ap (λ (a : Accepted). acceptedStep a (s .args .h)) e
 
 pub accepted-step-spec : {M : Type 1} → statement M
 accepted-step-spec =
@@ -48,8 +49,9 @@ accepted-step-spec =
     (tie.spec
     enum-known-answer
     stop-number-requires
+    plain-step-requires
     enum-known-answer-2
     number-of-requires
-    plain-step-requires
+    plain-step-requires-2
     returns
     returns-2)

@@ -1,5 +1,5 @@
 -- By the kind of call: what the part for that kind says.
-use Rattle.call_rows.proofs.ReplyLaws.{made-lines, made-change, made-reading, made-ranges, made-batch, made-walk}
+use Rattle.call_rows.proofs.ReplyLaws.{made-lines, made-change, made-reading, made-ranges, made-batch, made-walk, made-seek}
 use Rattle.call_rows.specs.Replies.{lent}
 use borrow.Author.Needs.{needs}
 use Rattle.call_rows.proofs.make_call.Statement.{statement}
@@ -94,9 +94,24 @@ walked-step-requires c κs = search needs
 returns-6 : tie.Need-returns-6
 returns-6 c =
     let t = c .before .before .before in
-    let a = t .before .before .before .before .before .args in
+    let a = t .before .before .before .before .before .before .args in
     made-walk (lent (a .h) (a .times .now) (a .tags .now)) (a .t2) (a .stamps) (a .t4) (a .frames .now) (a .fates .now) (a .fates .now) (a .list .now) (a .list .now)
-    (c .walked-step .result) (t .before .if4 .left) (t .if5 .left) (c .walked-step .ensures)
+    (c .walked-step .result) (t .if6 .taken) (c .walked-step .ensures)
+
+array-read-seek-step : tie.Need-array-read-seek-step
+array-read-seek-step c = search needs
+
+seek-step-requires : tie.Need-seek-step-requires
+seek-step-requires c κs = search needs
+
+returns-7 : tie.Need-returns-7
+returns-7 c =
+    let e = c .before .before .before in
+    let f = e .before in
+    let g = f .before in
+    let a = g .before .before .before .before .args in
+    made-seek (lent (a .h) (a .times .now) (a .tags .now)) (a .t2) (a .stamps) (a .t4) (a .frames .now) (a .fates .now) (a .fates .now) (a .list .now) (a .list .now)
+    (c .seek-step .result) (g .if4 .left) (f .if5 .left) (e .if6 .left) (c .seek-step .ensures)
 
 pub make-call-spec : {M : Type 1} → statement M
 make-call-spec =
@@ -122,4 +137,7 @@ make-call-spec =
     returns-5
     array-read-walked-step
     walked-step-requires
-    returns-6)
+    returns-6
+    array-read-seek-step
+    seek-step-requires
+    returns-7)

@@ -1,51 +1,51 @@
 //! Counting the calls in the last group by what they were answered, and what they would have been
 //! answered before it.
 
-use std::fmt::Write;
-
 use script::Call;
 
+use super::met::{Meets, Tests};
 use crate::last_group::LastGroup;
 use crate::told::fates;
 
-type Test = fn(&LastGroup) -> bool;
-
-/// What calls in the last group must have met, each with its test.
-const MET: [(&str, Test); 11] = [
-    ("append, stored", |call| {
-        is_append(call) && stores(&call.answer)
-    }),
-    ("append, dropped", |call| {
-        is_append(call) && drops(&call.answer)
-    }),
-    ("append refused 9, would be stored", |call| {
-        is_append(call) && call.begins && stores(&call.twin)
-    }),
-    ("append refused 9, would be dropped", |call| {
-        is_append(call) && call.begins && drops(&call.twin)
-    }),
-    ("append refused 9, else 8", |call| {
-        is_append(call) && call.begins && call.twin == "refused 8"
-    }),
-    ("append refused 7, else 9", |call| {
-        is_append(call) && call.begins && call.answer == "refused 7"
-    }),
-    ("append refused 8, and begins no group", |call| {
-        is_append(call) && !call.begins && call.answer == "refused 8"
-    }),
-    ("remove refused 9", |call| {
-        matches!(call.call, Call::Remove(..)) && call.begins
-    }),
-    ("remove, frames lost", |call| {
-        matches!(call.call, Call::Remove(..)) && fates(&call.answer).count() > 0
-    }),
-    ("abort refused 9", |call| {
-        call.call == Call::Abort && call.known
-    }),
-    ("abort refused 9, nothing set", |call| {
-        call.call == Call::Abort && !call.known
-    }),
-];
+impl Meets for LastGroup {
+    const NAME: &'static str = "in the last group";
+    const HEAD: &'static str = "Call in the last group";
+    const TESTS: Tests<Self> = &[
+        ("append, stored", |call| {
+            is_append(call) && stores(&call.answer)
+        }),
+        ("append, dropped", |call| {
+            is_append(call) && drops(&call.answer)
+        }),
+        ("append refused 9, would be stored", |call| {
+            is_append(call) && call.begins && stores(&call.twin)
+        }),
+        ("append refused 9, would be dropped", |call| {
+            is_append(call) && call.begins && drops(&call.twin)
+        }),
+        ("append refused 9, else 8", |call| {
+            is_append(call) && call.begins && call.twin == "refused 8"
+        }),
+        ("append refused 7, else 9", |call| {
+            is_append(call) && call.begins && call.answer == "refused 7"
+        }),
+        ("append refused 8, and begins no group", |call| {
+            is_append(call) && !call.begins && call.answer == "refused 8"
+        }),
+        ("remove refused 9", |call| {
+            matches!(call.call, Call::Remove(..)) && call.begins
+        }),
+        ("remove, frames lost", |call| {
+            matches!(call.call, Call::Remove(..)) && fates(&call.answer).count() > 0
+        }),
+        ("abort refused 9", |call| {
+            call.call == Call::Abort && call.known
+        }),
+        ("abort refused 9, nothing set", |call| {
+            call.call == Call::Abort && !call.known
+        }),
+    ];
+}
 
 fn is_append(call: &LastGroup) -> bool {
     matches!(call.call, Call::Append(..))
@@ -58,32 +58,4 @@ fn drops(answer: &str) -> bool {
 
 fn stores(answer: &str) -> bool {
     answer.starts_with("ok") && !drops(answer)
-}
-
-/// What calls in the last group met.
-#[derive(Clone, Debug, Default)]
-pub(super) struct Groups([u64; MET.len()]);
-
-impl Groups {
-    /// Counts a call.
-    pub(super) fn count(&mut self, call: &LastGroup) {
-        for (place, (_, met)) in self.0.iter_mut().zip(MET) {
-            *place += u64::from(met(call));
-        }
-    }
-
-    /// What was never met.
-    pub(super) fn gaps(&self) -> impl Iterator<Item = String> + '_ {
-        let missed = MET.iter().zip(self.0).filter(|(_, times)| *times == 0);
-        missed.map(|((name, _), _)| format!("in the last group, {name}: never"))
-    }
-
-    /// The counts as a table.
-    pub(super) fn table(&self) -> String {
-        let mut text = String::from("\n| Call in the last group | Times |\n|---|---|\n");
-        for ((name, _), times) in MET.iter().zip(self.0) {
-            let _ = writeln!(text, "| {name} | {times} |");
-        }
-        text
-    }
 }

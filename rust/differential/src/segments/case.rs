@@ -1,5 +1,6 @@
 //! A segment, and the call that asks for its frames.
 
+use script::digits;
 use second::SegmentTrack;
 
 /// A segment, what is asked of it, and how many places are lent.
@@ -38,9 +39,6 @@ pub(crate) fn asked(of: SegmentTrack, bytes: &[u8]) -> String {
         size,
         flags,
     } = of;
-    let bytes = match bytes {
-        [] => "-".to_string(),
-        _ => bytes.iter().map(|byte| format!("{byte:02x}")).collect(),
-    };
+    let bytes = digits(bytes);
     format!("{id} {track} {timescale} {duration} {size} {flags} {bytes}")
 }

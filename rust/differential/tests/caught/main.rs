@@ -3,20 +3,24 @@
 //! cuttings.
 
 mod batches;
+mod feeds;
 mod groups;
 mod lumps;
+mod seeks;
 mod segments;
 mod walks;
 
 use batches::WrongBatch;
 use differential::{run, Answers, Failure, Plan};
+use feeds::WrongFeed;
 use groups::WrongGroup;
 use lumps::{Lent, WrongLump, WrongReader};
 use script::{Batch, Declined, Poke, Second, Subject};
 use second::{
-    micros, Branch, Fate, Frame, Maybe, Mode, Offered, Reading, Row, SegmentTrack, State, Stretch,
-    Trace, SECONDS_LIMIT,
+    micros, Branch, Fate, Feed, Frame, Maybe, Mode, Offered, Reading, Row, SegmentTrack, Start,
+    State, Stretch, Trace, SECONDS_LIMIT,
 };
+use seeks::WrongSeek;
 use segments::WrongSegment;
 use walks::WrongWalk;
 
@@ -40,8 +44,10 @@ enum Wrong {
     AcceptsDamage,
     DeclinesPokes,
     Batch(WrongBatch),
+    Feed(WrongFeed),
     Group(WrongGroup),
     Lump(WrongLump),
+    Seek(WrongSeek),
     Segment(WrongSegment),
     Walk(WrongWalk),
 }
@@ -199,6 +205,13 @@ impl Subject for Build {
         }
     }
 
+    fn seek(&mut self, state: &State, track: u32, instant: i64) -> Result<Start, u32> {
+        match self.wrong {
+            Wrong::Seek(wrong) => wrong.seek(state, track, instant),
+            _ => self.second.seek(state, track, instant),
+        }
+    }
+
     fn list_segment(
         &mut self,
         of: SegmentTrack,
@@ -232,6 +245,13 @@ impl Subject for Build {
             list,
         };
         wrong.take(reader, lent)
+    }
+
+    fn feed<'a>(&mut self, initialization: &'a [u8], segment: &'a [u8], feed: Feed) -> &'a [u8] {
+        match self.wrong {
+            Wrong::Feed(wrong) => wrong.feed(initialization, segment, feed),
+            _ => self.second.feed(initialization, segment, feed),
+        }
     }
 
     fn damaged_readers(&self, reader: &WrongReader) -> Vec<WrongReader> {
@@ -422,6 +442,40 @@ fn a_walk_that_both_get_wrong_is_caught() {
         .iter()
         .any(|gap| gap.starts_with("walked refused 10: "));
     assert!(undue, "{}", gaps.join("\n"));
+}
+
+#[test]
+fn every_wrong_seek_is_caught_by_a_short_script() {
+    for wrong in WrongSeek::ALL {
+        let failure = put_to(Wrong::Seek(wrong)).expect_err("a difference");
+        println!("{wrong:?}: {failure}\n");
+        assert!(failure.script.len() <= 8, "{wrong:?}: {failure}");
+    }
+}
+
+#[test]
+fn every_wrong_feed_is_caught_by_one_call() {
+    for wrong in WrongFeed::ALL {
+        let failure = put_to(Wrong::Feed(wrong)).expect_err("a difference");
+        println!("{wrong:?}: {failure}\n");
+        assert_eq!(failure.script.len(), 1, "{wrong:?}: {failure}");
+    }
+}
+
+#[test]
+fn a_seek_or_a_feed_that_both_get_wrong_is_caught() {
+    for wrong in [
+        Wrong::Seek(WrongSeek::PresentedFirst),
+        Wrong::Seek(WrongSeek::CountsOtherGroups),
+        Wrong::Seek(WrongSeek::StartsWithoutAPoint),
+        Wrong::Feed(WrongFeed::GivesTheRest),
+        Wrong::Feed(WrongFeed::Copies),
+    ] {
+        let failure = put_to_both(wrong);
+        let parting = failure.expect_err("what is due").parting;
+        let due = parting.other.starts_with("as the request says: ");
+        assert!(due, "{wrong:?}: {parting}");
+    }
 }
 
 #[test]

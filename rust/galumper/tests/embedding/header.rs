@@ -63,6 +63,7 @@ fn every_number_is_the_bindings() {
         ("GALUMPER_MALFORMED", refusal(Refusal::Malformed)),
         ("GALUMPER_LENT_SIZE", refusal(Refusal::LentSize)),
         ("GALUMPER_LARGE_FRAGMENT", refusal(Refusal::LargeFragment)),
+        ("GALUMPER_NO_START", refusal(Refusal::NoStart)),
         ("GALUMPER_BEFORE_WINDOW", cause(Cause::BEFORE_WINDOW)),
         ("GALUMPER_AFTER_WINDOW", cause(Cause::AFTER_WINDOW)),
         ("GALUMPER_NEEDS_POINT", cause(Cause::NEEDS_POINT)),
@@ -73,6 +74,12 @@ fn every_number_is_the_bindings() {
         assert_eq!(number(&header, name), there, "{name}");
     }
 }
+
+/// What the library hands back and the binding has to itself, as `layout.c` writes it.
+const HANDED_BACK: &str = "\
+start: refusal 0, target 4, flagged 8, count 16, 24 bytes
+part: start 0, length 8, 16 bytes
+";
 
 /// A line of what `layout.c` writes: a struct, where each of its fields stands, and its bytes.
 macro_rules! line {
@@ -99,7 +106,7 @@ fn every_field_stands_where_the_binding_has_it() {
         line!("lump_reader", LumpReader: head left kept seen phase fragments),
     ];
     let written = written_watched(&source("layout.c"), &include(), &folder("layout"));
-    assert_eq!(written, lines.concat());
+    assert_eq!(written, lines.concat() + HANDED_BACK);
 }
 
 #[test]

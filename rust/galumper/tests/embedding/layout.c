@@ -27,5 +27,7 @@ int main(void) {
     AT(listed_frame, flagged), AT(listed_frame, size), BYTES(listed_frame);
     NAME(lump_reader), AT(lump_reader, head), AT(lump_reader, left), AT(lump_reader, kept), AT(lump_reader, seen);
     AT(lump_reader, phase), AT(lump_reader, fragments), BYTES(lump_reader);
+    NAME(start), AT(start, refusal), AT(start, target), AT(start, flagged), AT(start, count), BYTES(start);
+    NAME(part), AT(part, start), AT(part, length), BYTES(part);
     return 0;
 }

@@ -6,7 +6,7 @@ use std::path::PathBuf;
 
 use crate::compiler::{build, folder, include, source, written_watched};
 
-const ABI: [&str; 2] = ["#define GALUMPER_ABI 7\n", "#define GALUMPER_ABI 8\n"];
+const ABI: [&str; 2] = ["#define GALUMPER_ABI 8\n", "#define GALUMPER_ABI 9\n"];
 const SIZE: [&str; 2] = [
     "#define GALUMPER_SIZE 37064\n",
     "#define GALUMPER_SIZE 18632\n",

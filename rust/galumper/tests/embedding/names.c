@@ -5,7 +5,7 @@
 #include <stdio.h>
 
 int main(void) {
-    for (uint32_t refusal = GALUMPER_ILL_FORMED; refusal <= GALUMPER_LARGE_FRAGMENT; refusal++) {
+    for (uint32_t refusal = GALUMPER_ILL_FORMED; refusal <= GALUMPER_NO_START; refusal++) {
         printf("refusal %" PRIu32 ": %s\n", refusal, galumper_refusal_name(refusal));
     }
     for (uint32_t cause = 0; cause <= GALUMPER_REMOVED + 1; cause++) {

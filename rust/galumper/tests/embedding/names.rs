@@ -19,7 +19,7 @@ fn the_words_are_the_same_in_both_languages() {
 #[test]
 fn each_has_words_of_its_own() {
     let refusals: BTreeSet<String> = Refusal::ALL.iter().map(Refusal::to_string).collect();
-    assert_eq!(refusals.len(), 14);
+    assert_eq!(refusals.len(), 15);
     let causes: BTreeSet<String> = (0..=6).map(|cause| Cause(cause).to_string()).collect();
     assert_eq!(causes.len(), 7, "the six, and the words for any other");
     let kinds = [Kind::VIDEO, Kind::AUDIO, Kind(2)].map(|kind| kind.to_string());
@@ -32,5 +32,5 @@ fn refusals_are_numbered_from_1() {
         .iter()
         .map(|refusal| refusal.number())
         .collect();
-    assert_eq!(numbers, (1..=14).collect::<Vec<_>>());
+    assert_eq!(numbers, (1..=15).collect::<Vec<_>>());
 }

@@ -4,7 +4,7 @@
 #include <stdlib.h>
 
 uint32_t galumper_abi(void) {
-    return 8;
+    return 9;
 }
 
 size_t galumper_size(void) {
@@ -29,6 +29,8 @@ ENDS(read_settings)
 ENDS(track_ranges)
 ENDS(common_ranges)
 ENDS(walked)
+ENDS(seek)
+ENDS(feed)
 ENDS(list_segment)
 ENDS(take_lump)
 ENDS(take_last)

@@ -5,16 +5,19 @@ use Rattle.replay.proofs.answers.frames.Statement.{statement}
 use Rattle.replay.proofs.answers.frames.Tie as tie
 
 abbrev Inv-loop : tie.InvT-loop
-Inv-loop times tags n out₀ i₀ out i = i ≤ n
+Inv-loop times tags n slot out₀ i₀ out i = i ≤ n
 
 abbrev μ-loop : tie.MeasureT-loop
-μ-loop times tags n out₀ i₀ out i = n - i
+μ-loop times tags n slot out₀ i₀ out i = n - i
 
 loop-holds : tie.Need-loop-holds Inv-loop μ-loop
 loop-holds c = search needs
 
 frame-at-requires : tie.Need-frame-at-requires Inv-loop μ-loop
 frame-at-requires c κs = search needs
+
+add-frame : tie.Need-add-frame Inv-loop μ-loop
+add-frame c = search needs
 
 frame-requires : tie.Need-frame-requires Inv-loop μ-loop
 frame-requires c κs = search needs
@@ -39,6 +42,7 @@ frames-spec =
     μ-loop
     loop-holds
     frame-at-requires
+    add-frame
     frame-requires
     add-i
     loop-less
