@@ -27,7 +27,7 @@ use Rattle.buffer_state.specs.Batch.{offeredIn, appendEach, batch}
 use Rattle.buffer_state.specs.Remove.{farEdge, removalMarks, afterLoss, endsAny, removalLacksGroup, removed, remove}
 use Rattle.buffer_state.specs.Settings.{aborted, abort, modeSet, offsetSet, windowStartSet, windowEndSet}
 use Rattle.buffer_state.specs.Ranges.{Range, joined, rangesOf}
-use Rattle.buffer_state.specs.Seek.{Start, over, targetOf, upTo, fromFlagged, toDecode, seek}
+use Rattle.buffer_state.specs.Seek.{over, targetOf, upTo, fromFlagged, toDecode, seek}
 use Rattle.buffer_state.specs.Walked.{presentedWith, presented, takenFrom, takenOf, walked}
 use Rattle.buffer_state.specs.Run.{Call, appendCall, removeCall, abortCall, modeCall, offsetCall, windowStartCall, windowEndCall, batchCall, walkedCall, seekCall, Answer, ok, fates, accepted, taken, decoding, Entry, replyTo, run, lastOf}
 

@@ -4,21 +4,19 @@ use mathlib.Core.Bool.{Bool, true, false, not, _&&_}
 use mathlib.Core.List.{List, [], _∷_}
 use Prim.Native.Nat.{ℕ, _+_, _≤_, _<_}
 use native.Mathlib.Omega.{arith}
-use lib.Dec.{leb, eqb}
+use lib.Dec.{leb}
 use lib.IntN.{ℤ}
 use lib.ListN.{length, take, getD}
-use borrow.Author.Tests.{leb-true}
-use Rattle.laws.proofs.BoolLaws.{by-test, and-right, split}
+use Rattle.laws.proofs.BoolLaws.{by-test, split}
 use Rattle.buffer_state.specs.declared.Frame.{Frame}
 use Rattle.buffer_state.specs.declared.Head.{Head}
 use Rattle.buffer_state.specs.declared.Refusal.the-variants.{IllFormed, NoTrack, NoStart}
-use Rattle.buffer_state.specs.declared.Sought.{Sought}
 use Rattle.buffer_state.specs.Answers.{sought, seekResult}
 use Rattle.buffer_state.specs.Buffer.{Buffer, hasTrack}
 use Rattle.buffer_state.specs.Layout.{zeroFrame, bufferOf}
 use Rattle.buffer_state.specs.Lent.{framesOf, stateAt, wellFormedAt}
 use Rattle.buffer_state.specs.Limits.{places}
-use Rattle.buffer_state.specs.Refusals.{Result, refused, done}
+use Rattle.buffer_state.specs.Refusals.{Result, refused}
 use Rattle.buffer_state.specs.Run.{storedOn}
 use Rattle.buffer_state.specs.Seek.{Target, none, picked, Start, targetOf, fromFlagged, toDecode, startBy, startTo, seek}
 use Rattle.buffer_state.specs.WellFormed.{goodFrame}
@@ -41,16 +39,13 @@ unfolding storedOn
 to-within track t b none e = tt
 to-within track t b (picked f) e = by-within (storedOn track b) f (toDecode f (b .frames)) (count-bounded track t f (b .frames) e)
 
-pub within : (track : ℕ) (t : ℤ) (b : Buffer) → Within (storedOn track b) (sought (seek track t b))
+seek-few : (track : ℕ) (t : ℤ) (b : Buffer) → Within (storedOn track b) (sought (seek track t b))
 unfolding seek
-within track t b =
+seek-few track t b =
     by-test (λ (r : Result Start). Within (storedOn track b) (sought r)) (not (hasTrack b track)) (λ _. tt)
     (λ _. to-within track t b (targetOf track t (b .frames)) refl)
 
 module _ (track : ℕ) (t : ℤ) (h : Head) (ts : List (List ℤ)) (gs : List (List ℕ)) where
-  abbrev held : Buffer
-  held = bufferOf (stateAt h ts gs)
-
   pub seek-ill-formed : wellFormedAt h ts gs ≡ false → seekResult track t h ts gs ≡ refused IllFormed
   unfolding seekResult
   seek-ill-formed e = ill-formed-refused (seek track t) h ts gs e
@@ -62,7 +57,7 @@ module _ (track : ℕ) (t : ℤ) (h : Head) (ts : List (List ℤ)) (gs : List (L
   pub seek-within : Within (storedOn track (bufferOf (stateAt h ts gs))) (sought (seekResult track t h ts gs))
   seek-within =
       split (wellFormedAt h ts gs)
-      (λ w. rw (seek-held w) (within track t (bufferOf (stateAt h ts gs))))
+      (λ w. rw (seek-held w) (seek-few track t (bufferOf (stateAt h ts gs))))
       (λ i. rw (seek-ill-formed i) tt)
 
   module _ (w : wellFormedAt h ts gs ≡ true) where

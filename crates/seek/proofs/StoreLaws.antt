@@ -1,16 +1,15 @@
 -- Store order by places: the frames that lead to the one at a place are those of its group and track up to that place.
 use mathlib.Core.Path.{_≡_, refl, sym, ap, _∙_}
-use mathlib.Core.Bool.{Bool, true, false, cond, not, _&&_}
+use mathlib.Core.Bool.{Bool, true, false, cond, _&&_}
 use mathlib.Core.List.{List, [], _∷_}
 use Prim.Native.Nat.{ℕ, zero, suc, _+_, _≤_, _<_}
 use native.Mathlib.Omega.{arith}
 use lib.ListN.{length, take, getD}
 use lib.Seq.{length-take-le, getD-take, take-take}
-use Rattle.laws.proofs.BoolLaws.{both-ways}
 use Rattle.buffer_state.specs.declared.Frame.{Frame}
 use Rattle.buffer_state.specs.Seek.{leadsTo, upTo}
 use Rattle.buffer_state.specs.Store.{before, isOf}
-use Rattle.buffer_state.specs.WellFormed.{allOf, pairwise, sorted}
+use Rattle.buffer_state.specs.WellFormed.{allOf, sorted}
 use Rattle.buffer_laws.proofs.OrderLaws.{before-self, before-turned}
 use Rattle.buffer_laws.proofs.TestLaws.{all-first, all-rest, all-place, pairs-first, pairs-rest}
 use Rattle.seek.specs.Places.{sameGroup}

@@ -1,6 +1,6 @@
 -- The target of the frames from a place on, from the last place back to the first.
 use mathlib.Core.Path.{_≡_, refl, ap, _∙_}
-use mathlib.Core.Bool.{Bool, true, false, cond, _&&_}
+use mathlib.Core.Bool.{Bool, true, false, _&&_}
 use mathlib.Core.List.{List, _∷_}
 use Prim.Native.Nat.{ℕ, _+_, _-_, _≤_, _<_}
 use native.Mathlib.Omega.{arith}
@@ -14,7 +14,7 @@ use Rattle.buffer_state.specs.declared.Frame.{Frame}
 use Rattle.buffer_state.specs.Layout.{zeroFrame}
 use Rattle.buffer_state.specs.Limits.{resultTime}
 use Rattle.buffer_state.specs.Ranges.{covers}
-use Rattle.buffer_state.specs.Seek.{Target, none, picked, over, pick, targetOf}
+use Rattle.buffer_state.specs.Seek.{Target, none, picked, pick, targetOf}
 use Rattle.buffer_state.specs.WellFormed.{allOf}
 use Rattle.buffer_laws.proofs.TestLaws.{all-getD}
 use Rattle.seek.specs.Places.{timed, placed}
@@ -48,9 +48,6 @@ module _ (track : ℕ) (t : ℤ) (fs : List Frame) (n : ℕ) (k : n ≤ length f
   target-end = ap (targetOf track t) (first-end fs n k n (omega arith))
 
   module _ (i : ℕ) (some : 0 < i) (here : i ≤ n) where
-    frame : Frame
-    frame = getD fs (i - 1) zeroFrame
-
     next : drop (i - 1) (take n fs) ≡ getD fs (i - 1) zeroFrame ∷ drop i (take n fs)
     next =
         let step : (i - 1) + 1 ≡ i = omega arith in

@@ -1,20 +1,16 @@
--- The frames to decode, found from the target back: one frame more at the end of a list, and store order by places.
-use mathlib.Core.Path.{_≡_, refl, sym, ap, _∙_}
-use mathlib.Core.Bool.{Bool, true, false, cond, not, _&&_}
-use mathlib.Core.List.{List, [], _∷_, _++_}
-use Prim.Native.Nat.{ℕ, zero, suc, _+_, _-_, _≤_, _<_}
+-- The frames to decode, found from the target back: one frame more at the end of a list.
+use mathlib.Core.Path.{_≡_, refl, ap, _∙_}
+use mathlib.Core.Bool.{Bool, true, false, cond}
+use mathlib.Core.List.{List, [], _∷_, _++_, append-nil}
+use Prim.Native.Nat.{ℕ, suc, _+_, _-_, _≤_, _<_}
 use native.Mathlib.Omega.{arith}
 use lib.ListN.{length, take, getD, length-append}
 use lib.Seq.{take-suc}
-use Rattle.laws.proofs.BoolLaws.{by-test}
 use Rattle.buffer_state.specs.declared.Frame.{Frame}
 use Rattle.buffer_state.specs.declared.Refusal.the-variants.{NoStart}
 use Rattle.buffer_state.specs.Refusals.{Result, refused, done}
-use Rattle.buffer_state.specs.Seek.{Start, upTo, leadsTo, orElse, fromFlagged, startBy}
-use Rattle.buffer_state.specs.Store.{before, isOf}
-use Rattle.buffer_state.specs.WellFormed.{allOf, pairwise, sorted}
-use Rattle.buffer_laws.proofs.OrderLaws.{before-self, before-turned}
-use Rattle.buffer_laws.proofs.TestLaws.{all-first, all-rest, all-getD, pairs-first, pairs-rest}
+use Rattle.buffer_state.specs.Seek.{Start, orElse, fromFlagged, startBy}
+use Rattle.buffer_state.specs.Store.{isOf}
 use Rattle.seek.specs.Places.{sameGroup}
 
 -- ---- one frame more at the end
@@ -86,11 +82,7 @@ module _ (f : Frame) (fs : List Frame) (z : Frame) (i : ℕ) (some : 0 < i) (her
   module _ (own : Bool) (is : own ≡ isOf (f .track) (f .group) (getD fs (i - 1) z)) where
     pub walk-past : own ≡ false → back walked i ≡ back walked (i - 1)
     unfolding sameGroup
-    walk-past e = ap (λ (l : List Frame). startWith walked f (fromFlagged l)) (front ∙ rw (← is, e) (append-none (sameGroup f (take (i - 1) fs))))
-      where
-        append-none : (xs : List Frame) → xs ++ [] ≡ xs
-        append-none [] = refl
-        append-none (x ∷ xs) = ap (λ (l : List Frame). x ∷ l) (append-none xs)
+    walk-past e = ap (λ (l : List Frame). startWith walked f (fromFlagged l)) (front ∙ rw (← is, e) (append-nil (sameGroup f (take (i - 1) fs))))
 
     module _ (e : own ≡ true) where
       own-last : sameGroup f (take i fs) ≡ sameGroup f (take (i - 1) fs) ++ (getD fs (i - 1) z ∷ [])

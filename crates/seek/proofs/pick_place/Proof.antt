@@ -1,14 +1,13 @@
 -- Where none is picked yet, the frame is; else the two are compared.
 use mathlib.Core.Path.{_≡_, sym, ap, _∙_}
 use mathlib.Core.Bool.{Bool, true, false, cond}
-use Prim.Native.Nat.{_≤_, _<_}
+use Prim.Native.Nat.{_<_}
 use native.Mathlib.Omega.{arith}
 use lib.ListN.{getD}
 use denote.Ref.{now}
-use Rattle.buffer_state.specs.declared.Frame.{Frame}
 use Rattle.buffer_state.specs.Layout.{zeroFrame}
 use Rattle.buffer_state.specs.Lent.{framesOf}
-use Rattle.buffer_state.specs.Seek.{Target, picked, over, pick}
+use Rattle.buffer_state.specs.Seek.{picked, over, pick}
 use Rattle.seek.proofs.TargetLaws.{placed-none, placed-at}
 use borrow.Author.Needs.{needs}
 use Rattle.seek.proofs.pick_place.Statement.{statement}

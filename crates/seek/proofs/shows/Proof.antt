@@ -1,9 +1,7 @@
 -- The instant is from the presentation time up to the end, each read back from its bits.
-use mathlib.Core.Path.{_≡_, sym, _∙_}
 use mir.Syntax.{w64}
 use mir.Val.{SFits}
 use mir.ValLaws.{toZ-ofZ}
-use Rattle.buffer_state.specs.Buffer.{endOf}
 use borrow.Author.Needs.{needs}
 use Rattle.seek.proofs.shows.Statement.{statement}
 use Rattle.seek.proofs.shows.Tie as tie

@@ -1,12 +1,11 @@
 -- The invariant: what the walk from the target comes to is what it comes to from the place reached, with the frames counted so far.
 use mathlib.Core.Path.{_≡_, sym, ap, _∙_}
 use mathlib.Core.List.{List}
-use Prim.Native.Nat.{ℕ, _+_, _-_, _≤_, _<_}
+use Prim.Native.Nat.{ℕ, _+_, _-_, _≤_}
 use native.Mathlib.Omega.{arith}
 use lib.ListN.{length, take, getD}
 use denote.Ref.{now}
 use Rattle.buffer_state.specs.declared.Frame.{Frame}
-use Rattle.buffer_state.specs.declared.Sought.{Sought}
 use Rattle.buffer_state.specs.declared.Sought.the-variants.{Found}
 use Rattle.buffer_state.specs.Answers.{sought}
 use Rattle.buffer_state.specs.Layout.{zeroFrame}

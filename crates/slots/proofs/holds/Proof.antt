@@ -1,5 +1,4 @@
 -- Where no frame has a group beyond its row, the head decides.
-use mathlib.Core.Bool.{_&&_}
 use borrow.Author.Tests.{eq-eqb, ne-eqb}
 use borrow.Author.Needs.{needs}
 use Rattle.slots.proofs.holds.Statement.{statement}
