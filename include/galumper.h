@@ -13,7 +13,8 @@
  * The library has no state of its own: different buffers may be used by different threads at once; one buffer is changed by one
  * thread at a time, and calls that take it as const may run side by side.
  *
- * Times are whole microseconds, and doubles are seconds, which are rounded to the nearest microsecond, halves to the even one.
+ * Times are whole microseconds, and doubles are seconds, which are rounded to the nearest microsecond. Half a microsecond goes towards
+ * plus infinity, also below zero: 0.0078125 is 7,813 microseconds, and -0.0078125 is -7,812.
  */
 #ifndef GALUMPER_H
 #define GALUMPER_H
@@ -28,7 +29,7 @@ extern "C" {
 #endif
 
 /* The version of this header, of its library and of the Rust crate. */
-#define GALUMPER_VERSION "0.8.0"
+#define GALUMPER_VERSION "0.9.0"
 
 /* By these two a library belongs to this header: the number of its layout and functions, and the bytes of a galumper_buffer. */
 #define GALUMPER_ABI 8
@@ -123,7 +124,8 @@ typedef struct galumper_group {
     int64_t end;
 } galumper_group;
 
-/* A setting: the 64 bits of the double as it was given, beside its microseconds. A NaN's bits are not well-formed. */
+/* A setting: the 64 bits of the double as it was given, beside its microseconds. A NaN's bits are not well-formed, nor is a double beside
+ * microseconds that are not its own. */
 typedef struct galumper_setting {
     uint64_t bits;
     int64_t micros;
@@ -152,7 +154,7 @@ typedef struct galumper_head {
  * track, decode time and number, and zeros after them. The flag is 1 for a random access point; numbers are given from 1 in the
  * order of the appends; the group is the one in which the frame was stored, and none is above `head.group.number`. A buffer may be
  * read, copied and kept as any struct. No byte of it is padding: two buffers are the same exactly when memcmp says so, and its bytes
- * may be saved and loaded (ask galumper_matches before a loaded one is used). */
+ * may be saved and loaded (ask galumper_matches before a loaded one is used; docs/EMBEDDING.md has those of former versions). */
 typedef struct galumper_buffer {
     galumper_head head;
     int64_t times[GALUMPER_PLACES][2]; /* presentation and decode timestamp, with the timestamp offset added */

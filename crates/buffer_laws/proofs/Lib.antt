@@ -28,3 +28,4 @@ pub mod LedLaws
 pub mod AccountLaws
 pub mod KindLaws
 pub mod KeptLaws
+pub mod SavedLaws

@@ -1,6 +1,6 @@
 -- Document 01, "Soundings to check against": cases A to K in one table, each with its whole outcome and an equation of its own, and one
 -- proof of all; with them two refused calls of L in the midst of a run, two removals of our own, batches (document 02, No. 2), how many frames
--- the walk of a report takes (No. 3), coded frame groups (No. 4), and where to start decoding (No. 6).
+-- the walk of a report takes (No. 3), coded frame groups (No. 4), and where to start decoding (No. 6). K is as No. 7 has it.
 -- Video, one track, durations 100; R is a flagged frame, P one that is not, both given by presentation and decode time.
 use mathlib.Core.Path.{_≡_, refl}
 use mathlib.Core.Bool.{Bool, true, false}
@@ -9,16 +9,16 @@ use Prim.Native.Nat.{ℕ}
 use lib.IntN.{ℤ, pos, negℤ}
 use lib.Ieee.{Float, binary64, ofBits, ofInt, div}
 use lib.ListN.{replicate}
-use Rattle.seconds.specs.Seconds.{tieOf, roundOf, nearestOf, convertible, convertibleEnd, microsOf, secondsOf, boundOf, zeroSeconds, sameInt}
+use Rattle.seconds.specs.Seconds.{tieOf, roundOf, nearestOf, convertible, convertibleEnd, microsOf, secondsOf, boundOf, zeroSeconds, sameInt, sameDouble}
 use Rattle.buffer_state.specs.declared.Frame.{Frame}
 use Rattle.buffer_state.specs.declared.Track.{Track}
 use Rattle.buffer_state.specs.declared.Mode.the-variants.{Segments, Sequence}
 use Rattle.buffer_state.specs.declared.Group.{Group}
 use Rattle.buffer_state.specs.declared.Offered.{Offered}
-use Rattle.buffer_state.specs.declared.Refusal.the-variants.{FrameLimits, LastNumber, LentSize, NoStart, NoTrack, Seconds, ShortFates}
+use Rattle.buffer_state.specs.declared.Refusal.the-variants.{FrameLimits, LastNumber, LentSize, NoStart, NoTrack, Order, Seconds, ShortFates}
 use Rattle.buffer_state.specs.declared.Stop.the-variants.{Nothing, By}
 use Rattle.buffer_state.specs.declared.WindowEnd.the-variants.{Unbounded, At}
-use Rattle.buffer_state.specs.Buffer.{Buffer, fresh, freshTrack, freshSettings}
+use Rattle.buffer_state.specs.Buffer.{Buffer, fresh, freshTrack, freshSettings, withSettings}
 use Rattle.buffer_state.specs.Limits.{offeredTime, resultTime, goodDuration, places, lastGroup}
 use Rattle.buffer_state.specs.Refusals.{Result, refused, done}
 use Rattle.buffer_state.specs.Store.{before, insertSorted, followsTaken, walkFrom, kept, Line, linesOf}
@@ -28,6 +28,7 @@ use Rattle.buffer_state.specs.Remove.{farEdge, removalMarks, afterLoss, 
 use Rattle.buffer_state.specs.Settings.{aborted, abort, modeSet, offsetSet, windowStartSet, windowEndSet}
 use Rattle.buffer_state.specs.Ranges.{Range, joined, rangesOf}
 use Rattle.buffer_state.specs.Seek.{over, targetOf, upTo, fromFlagged, toDecode, seek}
+use Rattle.buffer_state.specs.WellFormed.{goodOffset}
 use Rattle.buffer_state.specs.Walked.{presentedWith, presented, takenFrom, takenOf, walked}
 use Rattle.buffer_state.specs.Run.{Call, appendCall, removeCall, abortCall, modeCall, offsetCall, windowStartCall, windowEndCall, batchCall, walkedCall, seekCall, Answer, ok, fates, accepted, taken, decoding, Entry, replyTo, run, lastOf}
 
@@ -238,6 +239,21 @@ caseK bits z = record {
     last = 0;
     settings = record { offset = record { seconds = double bits; micros = z }; start = freshSettings .start; end = Unbounded; limit = pos 0 };
   };
+  ranges = [];
+}
+
+-- Ours: half a microsecond below 7813 is 7813, so that nothing lies between the two, in a window or for a removal.
+abbrev half7812 : Float
+half7812 = double 0x3f80_0000_0000_0000
+
+abbrev at7813 : Float
+at7813 = double 0x3f80_0043_1bde_82d8
+
+abbrev caseKorder : Case
+caseKorder = record {
+  calls = windowStartCall half7812 ∷ windowEndCall at7813 ∷ removing half7812 at7813 ∷ [];
+  results = done ok ∷ refused Order ∷ refused Order ∷ [];
+  left = withSettings (fresh (0 ∷ [])) (record { offset = freshSettings .offset; start = record { seconds = half7812; micros = pos 7813 }; end = Unbounded; limit = pos 0 });
   ranges = [];
 }
 
@@ -466,6 +482,11 @@ HoldsFrom start c = computed start c ≡ c
 abbrev pub Holds : Case → Type 0
 Holds = HoldsFrom (fresh (0 ∷ []))
 
+-- an offset of these bits is well-formed with the one number of microseconds, and not with the other
+abbrev pub KeptWith : ℕ → ℤ → ℤ → Type 0
+KeptWith bits good ill =
+    (goodOffset (record { seconds = double bits; micros = good }) ≡ true) × (goodOffset (record { seconds = double bits; micros = ill }) ≡ false)
+
 -- A line for each case, with its letter: where one fails, the error stands at its line in the proof below.
 pub record Table : Type 0 where
   pub A : Holds caseA
@@ -480,11 +501,15 @@ pub record Table : Type 0 where
   pub J-early : Holds (caseJ 49 (line 1 1 ∷ []) waiting [] 0 [])
   pub J-kept : Holds (caseJ 50 [] (following 50 150) (frame 1 true 50 50 ∷ []) 150 (range 50 150 ∷ []))
   pub J-late : Holds (caseJ 51 (line 1 2 ∷ []) waiting [] 0 [])
-  pub K-half-below : Holds (caseK 0x3f80_0000_0000_0000 (pos 7812))  -- 0.0078125
-  pub K-half-above : Holds (caseK 0x3f98_0000_0000_0000 (pos 23438))  -- 0.0234375
-  pub K-half-negative : Holds (caseK 0xbf80_0000_0000_0000 (negℤ (pos 7812)))  -- -0.0078125
+  pub K-half-past-even : Holds (caseK 0x3f80_0000_0000_0000 (pos 7813))  -- 0.0078125
+  pub K-half-past-odd : Holds (caseK 0x3f98_0000_0000_0000 (pos 23438))  -- 0.0234375
+  pub K-negative-half-past-even : Holds (caseK 0xbf80_0000_0000_0000 (negℤ (pos 7812)))  -- -0.0078125
+  pub K-negative-half-past-odd : Holds (caseK 0xbf98_0000_0000_0000 (negℤ (pos 23437)))  -- -0.0234375
+  pub K-kept : KeptWith 0x3f80_0000_0000_0000 (pos 7813) (pos 7812)
+  pub K-negative-kept : KeptWith 0xbf98_0000_0000_0000 (negℤ (pos 23437)) (negℤ (pos 23438))
   pub K-smallest : Holds (caseK 0x0000_0000_0000_0001 (pos 0))  -- the smallest positive double
   pub K-largest : Holds (caseK 0x412e_8480_0000_0000 (pos 1000000000000))  -- 1,000,000
+  pub K-order : Holds caseKorder
   pub L : Holds caseL
   pub M : Holds caseM
   pub N : Holds caseN
@@ -502,7 +527,7 @@ pub record Table : Type 0 where
   pub Z-unled : HoldsFrom unled caseZunled
 
 pub soundings-hold : Table
-unfolding tieOf roundOf nearestOf convertible convertibleEnd microsOf secondsOf boundOf sameInt offeredTime resultTime goodDuration before insertSorted followsTaken walkFrom kept linesOf stepOne stepTwo passOf fits moved regrouped breaks secondPass lastPass leavesLimits lacksGroup overlapped overlapMarks stepNine stored settled appended offerable append appendEach batch farEdge removalMarks afterLoss endsAny removalLacksGroup removed remove aborted abort modeSet offsetSet windowStartSet windowEndSet joined rangesOf presentedWith presented takenFrom takenOf walked over targetOf upTo fromFlagged toDecode seek replyTo run lastOf ofBits ofInt div
+unfolding tieOf roundOf nearestOf convertible convertibleEnd microsOf secondsOf boundOf sameInt sameDouble goodOffset offeredTime resultTime goodDuration before insertSorted followsTaken walkFrom kept linesOf stepOne stepTwo passOf fits moved regrouped breaks secondPass lastPass leavesLimits lacksGroup overlapped overlapMarks stepNine stored settled appended offerable append appendEach batch farEdge removalMarks afterLoss endsAny removalLacksGroup removed remove aborted abort modeSet offsetSet windowStartSet windowEndSet joined rangesOf presentedWith presented takenFrom takenOf walked over targetOf upTo fromFlagged toDecode seek replyTo run lastOf ofBits ofInt div
 soundings-hold = record {
   A = refl;
   B = refl;
@@ -516,11 +541,15 @@ soundings-hold = record {
   J-early = refl;
   J-kept = refl;
   J-late = refl;
-  K-half-below = refl;
-  K-half-above = refl;
-  K-half-negative = refl;
+  K-half-past-even = refl;
+  K-half-past-odd = refl;
+  K-negative-half-past-even = refl;
+  K-negative-half-past-odd = refl;
+  K-kept = (refl, refl);
+  K-negative-kept = (refl, refl);
   K-smallest = refl;
   K-largest = refl;
+  K-order = refl;
   L = refl;
   M = refl;
   N = refl;

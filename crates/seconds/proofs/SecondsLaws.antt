@@ -1,5 +1,5 @@
 -- What the tests of sameness and the rounding to microseconds are worth. The rounding errs by at most half a unit; what else is said of it follows.
--- Only tie-between and tie-even look into the tie rule.
+-- Only tie-between and tie-up look into the tie rule.
 use mathlib.Core.Path.{_≡_, refl, sym, ap, ap₂, _∙_, subst}
 use mathlib.Core.Bool.{Bool, true, false, cond, Bool·beq, _&&_}
 use Prim.Native.Nat.{ℕ, zero, suc, _+_, _*_, _/_, _%_, _≤_, _<_, compare, Ordering, Ordering·lt, Ordering·eq, Ordering·gt}
@@ -7,7 +7,7 @@ use native.Mathlib.Nat.{add-mul, suc-mul, mul-comm, mul-assoc, mul-right-comm, m
 use native.Mathlib.Omega.{arith}
 use lib.Arith.{digits-div, digits-mod}
 use lib.Dec.{leb, eqb, isLe, isEq}
-use lib.IntN.{ℤ, pos, negsuc, negℤ}
+use lib.IntN.{ℤ, pos, negsuc, negℤ, _+ℤ_, _*ℤ_, negℤ-+ℤ, -ℤ-+ℤ-cancel}
 use lib.Signed.{leZ}
 use lib.Ieee.{Float, nan, inf, fin, up, down}
 use lib.Ieee.Fits.{down-pos}
@@ -75,7 +75,8 @@ Near q a b = (q * b * 2 ≤ a * 2 + b) × (a * 2 ≤ q * b * 2 + b)
 -- the tie rule picks q or the next number up
 tie-between : (s : Bool) (q : ℕ) → (q ≤ tieOf s q) × (tieOf s q ≤ suc q)
 unfolding tieOf
-tie-between s q = omega arith
+tie-between true q = omega arith
+tie-between false q = omega arith
 
 round-near : (s : Bool) (q b r : ℕ) (o : Ordering) → r < b → compare (r * 2) b ≡ o → Near (roundOf s q o) (q * b + r) b
 unfolding roundOf
@@ -124,14 +125,27 @@ round-half s q Ordering·gt e = clash (sym e)
 pub nearest-half : (s : Bool) (a b q r : ℕ) → a ≡ q * b + r → 0 < b → r * 2 ≡ b → nearestOf s a b ≡ tieOf s q
 nearest-half s a b q r e some h = nearest-by s a b q r e (omega arith) ∙ round-half s q (compare (r * 2) b) (eq-eqb (r * 2) b h)
 
-tie-even : (s : Bool) (q : ℕ) → tieOf s q % 2 ≡ 0
-unfolding tieOf
-tie-even s q = omega arith
+signed-product : (s : Bool) (n k : ℕ) → signed s n *ℤ pos k ≡ signed s (n * k)
+signed-product false n k = refl
+signed-product true zero k = let none : 0 * k ≡ 0 = omega arith in rw none
+signed-product true (suc n) k = refl
 
--- a half goes to the even number
-pub nearest-even : (s : Bool) (a b : ℕ) → a % b * 2 ≡ b → nearestOf s a b % 2 ≡ 0
+-- the tie rule gives the number half a unit above
+tie-up : (s : Bool) (q b : ℕ) → signed s (tieOf s q * (b * 2)) ≡ signed s (q * (b * 2) + b) +ℤ pos b
+unfolding tieOf
+tie-up false q b = ap pos (omega (arith, add-mul q 1 (b * 2)))
+tie-up true q b =
+    let whole = pos (q * (b * 2)) in
+    sym (ap (λ (z : ℤ). z +ℤ pos b) (negℤ-+ℤ whole (pos b)) ∙ -ℤ-+ℤ-cancel (negℤ whole) (pos b))
+
+-- a half goes towards plus infinity: on either side of zero it becomes the number half a unit above it
+pub half-up : (s : Bool) (a b : ℕ) → a % b * 2 ≡ b → signed s (nearestOf s a b) *ℤ pos (b * 2) ≡ signed s (a * 2) +ℤ pos b
 unfolding nearestOf
-nearest-even s a b h = ap (λ (z : ℕ). z % 2) (round-half s (a / b) (compare (a % b * 2) b) (eq-eqb (a % b * 2) b h)) ∙ tie-even s (a / b)
+half-up s a b h =
+    let q : ℕ = a / b in
+    let tie : nearestOf s a b ≡ tieOf s q = round-half s q (compare (a % b * 2) b) (eq-eqb (a % b * 2) b h) in
+    let twice : q * (b * 2) + b ≡ a * 2 = omega (arith, div-add-mod' a b, mul-assoc q b 2) in
+    signed-product s (nearestOf s a b) (b * 2) ∙ ap (λ (n : ℕ). signed s (n * (b * 2))) tie ∙ tie-up s q b ∙ ap (λ (n : ℕ). signed s n +ℤ pos b) twice
 
 -- an answer of `compare`, by its two tests
 abbrev orderOf : Bool → Bool → Ordering

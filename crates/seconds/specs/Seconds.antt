@@ -1,4 +1,4 @@
--- Document 01, "Times and numbers": a double in seconds as whole microseconds, and back.
+-- Document 01, "Times and numbers": a double in seconds as whole microseconds, and back; halves as document 02, No. 7, has them.
 -- A finite double is the exact fraction m * up e / down e of its bits, negative where s is true.
 use Prim.Native.Nat.{ℕ, suc, _+_, _*_, _/_, _%_, compare, Ordering, Ordering·lt, Ordering·eq, Ordering·gt}
 use mathlib.Core.Bool.{Bool, true, false, cond, _&&_, _||_, Bool·beq, not}
@@ -10,10 +10,11 @@ use Rattle.seconds.specs.declared.Micros.the-variants.{At, Refused}
 use Rattle.seconds.specs.declared.EndMicros.{EndMicros}
 use Rattle.seconds.specs.declared.EndMicros.the-variants as End
 
--- The tie rule, alone: a magnitude half way between q and q + 1 goes to the even one of them.
--- The sign s is an argument because another rule may need it.
+-- Document 02, No. 7, the tie rule alone: half a microsecond goes towards plus infinity. So a magnitude half way between q and q + 1
+-- becomes q where the number is negative, and else q + 1.
 unfoldable pub tieOf : Bool → ℕ → ℕ
-tieOf s q = q + q % 2
+tieOf true q = q
+tieOf false q = q + 1
 
 -- q or the next number up, by how twice the remainder compares with the divisor
 unfoldable pub roundOf : Bool → ℕ → Ordering → ℕ

@@ -25,12 +25,15 @@ pub enum EndMicros {
     Refused,
 }
 
-// The tie rule: what lies half way between whole and whole + 1 goes to the even one.
+// The tie rule: a magnitude half way between whole and whole + 1 goes towards plus infinity, which is down below zero.
 fn tie(negative: bool, whole: u64) -> u64
     requires { ⌜ whole < 2 ^ 63 ⌝ }
     ensures { λ r. ⌜ r ≡ tieOf negative whole ⌝ }
 {
-    whole + whole % 2
+    if negative {
+        return whole;
+    }
+    whole + 1
 }
 
 // The whole number nearest to m * 15625 / 2^(j + 4). The product has up to 67 bits: its last four are kept apart.

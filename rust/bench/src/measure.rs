@@ -215,6 +215,7 @@ impl<S: Subject> Runner<S> {
             Call::Remove => subject.remove(state, 0.0, 1.0, &mut self.fates),
             Call::Abort => subject.abort(state).map(done),
             Call::SetMode => subject.set_mode(state, Mode::Sequence).map(done),
+            // Half way between two microseconds, so that the tie rule is in the row.
             Call::SetOffset => subject.set_offset(state, 0.0078125).map(done),
             Call::SetWindowStart => subject.set_window_start(state, 0.5).map(done),
             Call::SetWindowEnd => subject.set_window_end(state, 60.0).map(done),

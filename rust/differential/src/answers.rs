@@ -1,11 +1,12 @@
-//! Counting what the answers say: accepted and refused calls, causes, the doubles handed in, what
-//! became of batches, what the walks of reports, seeks, feeds and calls in the last group met, and how
-//! cut segments ended.
+//! Counting what the answers say: accepted and refused calls, causes, the doubles handed in, where
+//! halves went, what became of batches, what the walks of reports, seeks, feeds and calls in the last
+//! group met, and how cut segments ended.
 
 mod batches;
 mod cuttings;
 mod feeds;
 mod groups;
+mod halves;
 mod met;
 mod seeks;
 mod walks;
@@ -14,9 +15,10 @@ use std::collections::BTreeMap;
 use std::fmt::Write;
 
 use script::Call;
-use second::{micros, SECONDS_LIMIT};
+use second::{micros, State, SECONDS_LIMIT};
 
 use crate::fed::Fed;
+use crate::halves::{Half, HandedHalf, KeptHalf};
 use crate::last_group::LastGroup;
 use crate::lumps::cutting::Cutting;
 use crate::sought::Sought;
@@ -31,6 +33,13 @@ struct Row {
     call: &'static str,
     refusals: &'static [usize],
     causes: &'static [usize],
+}
+
+impl Row {
+    /// Whether the call takes a state. Lumps are refused 1 for their reader.
+    fn takes_state(&self) -> bool {
+        self.refusals.contains(&1) && self.call != LUMP
+    }
 }
 
 const fn row(call: &'static str, refusals: &'static [usize], causes: &'static [usize]) -> Row {
@@ -84,7 +93,9 @@ const DOUBLES: [(&str, Test); 8] = [
     ("below zero, 0 microseconds", |double| {
         double < 0.0 && micros(double) == Some(0)
     }),
-    ("exact half microsecond", is_half),
+    ("exact half microsecond", |double| {
+        Half::of(double).is_some()
+    }),
     ("1,000,000 either way", |double| {
         double.abs() == SECONDS_LIMIT
     }),
@@ -92,11 +103,6 @@ const DOUBLES: [(&str, Test); 8] = [
         double.abs() == SECONDS_LIMIT.next_up()
     }),
 ];
-
-/// Whether a double is an odd multiple of 1/128; the product is exact.
-fn is_half(double: f64) -> bool {
-    double.abs() <= SECONDS_LIMIT && (double * 128.0).rem_euclid(2.0) == 1.0
-}
 
 /// What damage must have done to a segment: its answer whole, and damaged. Where a 12 takes the
 /// place of a 4 or a 10, and a 4 that of a 10, it is by the order of the three.
@@ -130,7 +136,11 @@ pub struct Answers {
     accepted: [u64; ROWS.len()],
     refused: [[u64; REFUSALS]; ROWS.len()],
     causes: [[u64; CAUSES]; ROWS.len()],
+    /// Calls refused 1 for a half that their state keeps as document 01 converted it.
+    outdated: [u64; ROWS.len()],
     doubles: [u64; DOUBLES.len()],
+    handed_halves: Met<HandedHalf>,
+    kept_halves: Met<KeptHalf>,
     batches: Batches,
     walks: Met<Walk>,
     seeks: Met<Sought>,
@@ -214,6 +224,21 @@ impl Answers {
         self.feeds.count(fed);
     }
 
+    /// Counts the halves that a call hands in, and those that the state keeps which it takes.
+    pub(crate) fn halves(&mut self, call: &str, answer: &str, before: &State, after: &State) {
+        for half in HandedHalf::all(call, answer, before, after) {
+            self.handed_halves.count(&half);
+        }
+        let name = call.split(' ').next().unwrap_or_default();
+        let Some(row) = place(name).filter(|row| ROWS[*row].takes_state()) else {
+            return;
+        };
+        for half in KeptHalf::all(before, answer) {
+            self.kept_halves.count(&half);
+            self.outdated[row] += u64::from(half.is_outdated());
+        }
+    }
+
     /// Counts a call in the last group.
     pub(crate) fn last_group(&mut self, call: &LastGroup) {
         self.groups.count(call);
@@ -265,12 +290,19 @@ impl Answers {
             for (cause, &times) in self.causes[index].iter().enumerate() {
                 judge(format!("cause {cause}"), row.causes.contains(&cause), times);
             }
+            judge(
+                "refused 1 for a half".to_string(),
+                row.takes_state(),
+                self.outdated[index],
+            );
         }
         let missed = DOUBLES
             .iter()
             .zip(self.doubles)
             .filter(|(_, times)| *times == 0);
         gaps.extend(missed.map(|((name, _), _)| format!("seconds, {name}: never")));
+        gaps.extend(self.handed_halves.gaps());
+        gaps.extend(self.kept_halves.gaps());
         gaps.extend(self.batches.gaps());
         gaps.extend(self.walks.gaps());
         gaps.extend(self.seeks.gaps());
@@ -289,7 +321,8 @@ impl Answers {
     /// The counts as tables.
     pub fn tables(&self) -> String {
         let mut text = String::from(
-            "| Call | Accepted | Refused, by number | Lines, by cause |\n|---|---|---|---|\n",
+            "| Call | Accepted | Refused, by number | 1 for a half by document 01 | Lines, by cause |\n\
+             |---|---|---|---|---|\n",
         );
         for (index, row) in ROWS.iter().enumerate() {
             let list = |numbers: &[usize], counts: &[u64]| {
@@ -298,10 +331,11 @@ impl Answers {
             };
             let _ = writeln!(
                 text,
-                "| {} | {} | {} | {} |",
+                "| {} | {} | {} | {} | {} |",
                 row.call,
                 self.accepted[index],
                 list(row.refusals, &self.refused[index]),
+                self.outdated[index],
                 list(row.causes, &self.causes[index])
             );
         }
@@ -309,6 +343,8 @@ impl Answers {
         for ((name, _), times) in DOUBLES.iter().zip(self.doubles) {
             let _ = writeln!(text, "| {name} | {times} |");
         }
+        text.push_str(&self.handed_halves.table());
+        text.push_str(&self.kept_halves.table());
         text.push_str(&self.batches.tables());
         text.push_str(&self.walks.table());
         text.push_str(&self.seeks.table());

@@ -76,6 +76,9 @@ impl<A: Subject, B: Subject> Pair<'_, A, B> {
         };
         answers.count(call, &answer);
         let after = self.views();
+        if let (Some(before), Some(after)) = (&before[0], &after[0]) {
+            answers.halves(call, &answer, before, after);
+        }
         let name = call.split(' ').next().unwrap_or_default();
         if answer.starts_with("refused") || READING.contains(&name) {
             unmoved(&before, &after)?;

@@ -2,6 +2,7 @@
 
 use second::{quotient, FRAME_PLACES, LONGEST_DURATION, OFFERED_LIMIT, RESULT_LIMIT, TRACK_PLACES};
 
+use crate::halves::Half;
 use crate::writer::{word, Writer, PAST_A_BYTE};
 
 /// Times as offered, at and around their limits.
@@ -51,7 +52,8 @@ pub fn script(seed: u64) -> Vec<String> {
         27..=39 => overlaps(&mut writer),
         40..=53 => sequence(&mut writer),
         54..=62 => windows(&mut writer),
-        63..=68 => seconds(&mut writer),
+        63..=66 => seconds(&mut writer),
+        67..=68 => halves(&mut writer),
         69..=73 => offered_limits(&mut writer),
         74..=83 => result_limits(&mut writer),
         84..=85 => long_way_round(&mut writer),
@@ -310,6 +312,68 @@ fn seconds(writer: &mut Writer) {
             _ => {}
         }
     }
+}
+
+/// Halves of a microsecond where it shows which way they go: windows and removals at the whole numbers
+/// beside them, and saved states.
+fn halves(writer: &mut Writer) {
+    writer.create_some();
+    for _ in 0..writer.rng.between(4, 16) {
+        let half = writer.exact_half();
+        let above_zero = Half(half.0.abs());
+        match writer.rng.between(1, 6) {
+            1 => window_at_a_half(writer, above_zero),
+            2..=3 => removal_at_a_half(writer, above_zero),
+            4 => saved_half(writer, "offset", half),
+            5 => saved_half(writer, "window-start", above_zero),
+            _ => saved_half(writer, "window-end", above_zero),
+        }
+    }
+}
+
+/// A window from the number below up to the half, or one from the half up to the number above.
+fn window_at_a_half(writer: &mut Writer, half: Half) {
+    let [below, above] = [half.below(), half.up()].map(|micros| word(quotient(micros)));
+    let half = word(half.double());
+    writer.line("abort");
+    if writer.rng.percent(50) {
+        writer.line(format!("window-start {below}"));
+        writer.line(format!("window-end {half}"));
+    } else {
+        writer.line(format!("window-end {above}"));
+        writer.line(format!("window-start {half}"));
+    }
+}
+
+/// A removal from a half on or up to it, with a random access point at either number beside it.
+fn removal_at_a_half(writer: &mut Writer, half: Half) {
+    writer.line("abort");
+    writer.line("offset 0");
+    let (track, beside) = (writer.track(), [half.below(), half.up()]);
+    for time in beside {
+        writer.append(track, time, time, 1, true);
+    }
+    let [below, above] = beside.map(|micros| word(quotient(micros)));
+    let half = word(half.double());
+    let call = match writer.rng.between(1, 4) {
+        1 => format!("remove {half} inf"),
+        2 => format!("remove 0 {half}"),
+        3 => format!("remove {below} {half}"),
+        _ => format!("remove {half} {above}"),
+    };
+    writer.line(call);
+}
+
+/// A saved state that keeps a half as a setting, with either number beside it.
+fn saved_half(writer: &mut Writer, name: &str, half: Half) {
+    let micros = writer.rng.pick(&[half.below(), half.up()]);
+    writer.line("save");
+    writer.line(format!("poke {name}-us {micros}"));
+    writer.line(format!("poke {name}-double {}", word(half.double())));
+    for _ in 0..writer.rng.between(2, 6) {
+        every_call(writer);
+    }
+    writer.line("restore");
 }
 
 /// Fields of the offered frame at their limits, and tracks that are not there.

@@ -3,6 +3,7 @@
 use script::digits;
 use second::{quotient, LONGEST_DURATION, RESULT_LIMIT, SECONDS_LIMIT, TRACK_PLACES};
 
+use crate::halves::Half;
 use crate::rng::Rng;
 use crate::segments;
 
@@ -438,18 +439,23 @@ impl Writer {
         word(double)
     }
 
-    /// An odd multiple of 1/128 s, which is an exact half microsecond, or a neighbour of one.
+    /// An exact half microsecond, or a neighbour of one.
     pub(crate) fn half(&mut self) -> f64 {
-        let odd = match self.rng.percent(70) {
-            true => self.rng.between(-20, 20),
-            false => self.rng.between(-63_999_999, 63_999_999),
-        };
-        let half = (2 * odd + 1) as f64 / 128.0;
+        let half = self.exact_half().double();
         match self.rng.between(1, 6) {
             1 => half.next_up(),
             2 => half.next_down(),
             _ => half,
         }
+    }
+
+    /// An exact half microsecond, mostly of a few.
+    pub(crate) fn exact_half(&mut self) -> Half {
+        let number = match self.rng.percent(70) {
+            true => self.rng.between(-20, 20),
+            false => self.rng.between(-63_999_999, 63_999_999),
+        };
+        Half(2 * number + 1)
     }
 
     /// A duration that is or is not within the limits.

@@ -74,7 +74,7 @@ pub struct Group {
 pub struct Setting {
     /// The double's bits.
     pub bits: u64,
-    /// Its microseconds.
+    /// Its microseconds: the nearest, and half a microsecond goes towards plus infinity.
     pub micros: i64,
 }
 
@@ -160,7 +160,8 @@ impl Buffer {
     }
 
     /// The buffer that these bytes are, as they were saved. Any bytes may be loaded: where they are
-    /// no well-formed buffer, every call on it is refused.
+    /// no well-formed buffer, every call on it is refused. Of those saved before version 0.9.0 some are
+    /// none any more: see [`Buffer::made_again`].
     pub fn from_bytes(bytes: &[u8; SIZE]) -> Box<Self> {
         let mut buffer = Self::zeroed();
         // SAFETY: any bytes are numbers, and the buffer has so many.

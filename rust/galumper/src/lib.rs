@@ -22,6 +22,7 @@
 //! # }
 //! ```
 
+mod again;
 mod batch;
 mod buffer;
 mod calls;

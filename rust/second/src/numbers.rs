@@ -29,8 +29,9 @@ pub(crate) fn frame_duration(duration: i64) -> bool {
     (1..=i64::from(LONGEST_DURATION)).contains(&duration)
 }
 
-/// The microsecond nearest to the exact value of a double, halves to the even number; nothing for
-/// a double that is not finite or beyond the limit.
+/// The microsecond nearest to the exact value of a double; nothing for a double that is not finite or
+/// beyond the limit. Halves go towards plus infinity, by document 02, No. 7, "Halves must go up", where
+/// document 01 had the even number.
 ///
 /// The double is read from its bits as an exact fraction: a product of doubles would round once
 /// before the rounding that is asked for.
@@ -49,19 +50,17 @@ pub fn micros(seconds: f64) -> Option<i64> {
         0 => (bits & FRACTION, BIAS - 1),
         _ => (bits & FRACTION | (1 << FRACTION_BITS), BIAS - exponent),
     };
-    // Below 2^73, so that from a shift of 75 on everything rounds to 0 and 127 serves for all.
-    let scaled = u128::from(significand) * u128::from(MICROS_PER_SECOND);
+    let scaled = i128::from(significand) * i128::from(MICROS_PER_SECOND);
+    let exact = match seconds.is_sign_negative() {
+        true => -scaled,
+        false => scaled,
+    };
+    // Within 2^73 either way, so that from a shift of 75 on everything rounds to 0 and 127 serves
+    // for all.
     let shift = shift.min(127);
-    let whole = (scaled >> shift) as i64;
-    let rest = scaled & ((1 << shift) - 1);
     let half = 1 << (shift - 1);
-    let up = rest > half || (rest == half && whole % 2 == 1);
-    let magnitude = whole + i64::from(up);
-    Some(if seconds.is_sign_negative() {
-        -magnitude
-    } else {
-        magnitude
-    })
+    // The shift rounds down, below zero too.
+    Some(((exact + half) >> shift) as i64)
 }
 
 /// The double kept for an offset that an append has set: one division of exact operands.
@@ -74,24 +73,33 @@ mod tests {
     use super::*;
 
     #[test]
-    fn halves_go_to_the_even_number() {
+    fn halves_go_up() {
         // Odd multiples of 1/128 s are the only exact halves.
-        for odd in [1_i64, 3, 5, 7, 9, 127, 129, 12_345_677] {
-            let seconds = odd as f64 / 128.0;
-            let doubled = odd * 15_625; // twice the microseconds
-            let below = doubled.div_euclid(2);
-            let even = below + below % 2;
-            assert_eq!(micros(seconds), Some(even), "{odd}/128");
-            assert_eq!(micros(-seconds), Some(-even), "-{odd}/128");
+        for odd in [1_i64, 3, 5, 7, 9, 127, 129, 12_345_677, 127_999_999] {
+            for odd in [odd, -odd] {
+                let doubled = odd * 15_625; // twice the microseconds
+                let above = (doubled + 1).div_euclid(2);
+                assert_eq!(micros(odd as f64 / 128.0), Some(above), "{odd}/128");
+            }
         }
     }
 
     #[test]
+    fn halves_as_the_request_has_them() {
+        assert_eq!(micros(0.0078125), Some(7813));
+        assert_eq!(micros(0.0234375), Some(23438));
+        assert_eq!(micros(-0.0078125), Some(-7812));
+        assert_eq!(micros(-0.0234375), Some(-23437));
+    }
+
+    #[test]
     fn neighbours_of_a_half_go_to_the_nearer_number() {
-        let half = 0.0078125_f64;
-        assert_eq!(micros(half.next_up()), Some(7813));
-        assert_eq!(micros(half.next_down()), Some(7812));
-        assert_eq!(micros((-half).next_down()), Some(-7813));
+        for (half, below) in [(0.0078125_f64, 7812), (0.0234375, 23437)] {
+            assert_eq!(micros(half.next_down()), Some(below));
+            assert_eq!(micros(half.next_up()), Some(below + 1));
+            assert_eq!(micros((-half).next_down()), Some(-below - 1));
+            assert_eq!(micros((-half).next_up()), Some(-below));
+        }
     }
 
     #[test]

@@ -166,6 +166,21 @@ fn setters_give_5_6() {
 }
 
 #[test]
+fn halves_are_ordered_where_they_go() {
+    // 7812.5 is 7813.
+    let (below, half, above) = (0.007812, 0.0078125, 0.007813);
+    let mut fates = vec![[0; 2]; FRAME_PLACES];
+    let mut state = fresh();
+    let removed = remove(&mut state, half, above, &mut fates);
+    assert_eq!(removed, Err(Refusal::Order));
+    assert_eq!(remove(&mut state, below, half, &mut fates), Ok(0));
+    set_window_end(&mut state, above).expect("a window end");
+    assert_eq!(set_window_start(&mut state, half), Err(Refusal::Order));
+    set_window_start(&mut state, below).expect("a window start");
+    assert_eq!(set_window_end(&mut state, half), Ok(()));
+}
+
+#[test]
 fn reports_give_3_10() {
     let mut state = fresh();
     let mut fates = vec![[0; 2]; FRAME_PLACES];

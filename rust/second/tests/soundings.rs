@@ -1,4 +1,4 @@
-//! The paper's soundings A to L, with the paper's numbers.
+//! The paper's soundings A to L, with the paper's numbers; K has those of document 02, No. 7.
 
 use second::{
     abort, append, create, micros, read_settings, remove, set_mode, set_offset, set_window_end,
@@ -180,9 +180,10 @@ fn j() {
 
 #[test]
 fn k() {
-    assert_eq!(micros(0.0078125), Some(7812));
+    assert_eq!(micros(0.0078125), Some(7813));
     assert_eq!(micros(0.0234375), Some(23438));
     assert_eq!(micros(-0.0078125), Some(-7812));
+    assert_eq!(micros(-0.0234375), Some(-23437));
     assert_eq!(micros(f64::from_bits(1)), Some(0));
     assert_eq!(micros(1_000_000.0), Some(1_000_000_000_000));
 }

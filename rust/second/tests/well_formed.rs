@@ -3,8 +3,8 @@
 use second::{
     abort, append, append_batch, common_ranges, create, quotient, read_settings, remove, seek,
     set_mode, set_offset, set_window_end, set_window_start, track_ranges, walked, well_formed,
-    Fault, Maybe, Mode, Offered, Refusal, State, BATCH_LINES, FRAME_PLACES, LONGEST_DURATION,
-    OFFERED_LIMIT, RESULT_LIMIT,
+    Fault, Maybe, Mode, Offered, Refusal, Seconds, State, BATCH_LINES, FRAME_PLACES,
+    LONGEST_DURATION, OFFERED_LIMIT, RESULT_LIMIT,
 };
 
 const BEYOND: i64 = RESULT_LIMIT + 1;
@@ -136,6 +136,68 @@ fn each_damage_is_found_and_refused_by_every_call() {
             assert_eq!(refusal, Some(Refusal::IllFormed), "damage {place}");
         }
     }
+}
+
+/// Keeps a time as a setting of the state.
+type Keep = fn(&mut State, Seconds);
+
+/// The settings, each with its fault where the double does not convert.
+#[rustfmt::skip]
+const SETTINGS: [(Fault, Keep); 3] = [
+    (Fault::OffsetDouble, |s, time| s.head.settings.offset = time),
+    (Fault::WindowStartDouble, |s, time| s.head.settings.window_start = time),
+    (Fault::WindowEndDouble, |s, time| s.head.settings.window_end.time = time),
+];
+
+/// Document 02, No. 7: a double, the microseconds that it stands for, and those that it stood for by
+/// document 01.
+const ABOVE_ZERO: (f64, i64, i64) = (0.0078125, 7813, 7812);
+const BELOW_ZERO: (f64, i64, i64) = (-0.0234375, -23437, -23438);
+
+fn keeping(keep: Keep, double: f64, micros: i64) -> State {
+    let mut state = healthy();
+    keep(&mut state, Seconds { double, micros });
+    state
+}
+
+#[test]
+fn a_half_saved_by_document_01_is_refused_by_every_call() {
+    let [offset, ..] = SETTINGS;
+    let above = SETTINGS.map(|setting| (setting, ABOVE_ZERO));
+    for ((fault, keep), (double, now, before)) in above.into_iter().chain([(offset, BELOW_ZERO)]) {
+        let state = keeping(keep, double, now);
+        assert!(refusals(&state).iter().all(Option::is_none), "{fault:?}");
+        let saved = keeping(keep, double, before);
+        assert_eq!(well_formed(&saved), Err(fault));
+        for refusal in refusals(&saved) {
+            assert_eq!(refusal, Some(Refusal::IllFormed), "{fault:?}");
+        }
+    }
+}
+
+#[test]
+fn a_quotient_beside_a_half_is_taken_as_the_offset() {
+    let [(_, keep), ..] = SETTINGS;
+    for micros in [7812, 7813, -23437, -23438] {
+        let state = keeping(keep, quotient(micros), micros);
+        assert_eq!(well_formed(&state), Ok(()), "{micros}");
+    }
+}
+
+#[test]
+fn halves_are_set_again_on_a_fresh_buffer() {
+    let mut state = create(&[0]).expect("one track");
+    set_offset(&mut state, -0.0234375).expect("an offset");
+    set_window_start(&mut state, 0.0078125).expect("a window start");
+    set_window_end(&mut state, 0.0234375).expect("a window end");
+    let settings = state.head.settings;
+    let kept = [
+        settings.offset,
+        settings.window_start,
+        settings.window_end.time,
+    ];
+    assert_eq!(kept.map(|time| time.micros), [-23437, 7813, 23438]);
+    assert_eq!(well_formed(&state), Ok(()));
 }
 
 #[test]

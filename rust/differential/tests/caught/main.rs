@@ -5,6 +5,7 @@
 mod batches;
 mod feeds;
 mod groups;
+mod halves;
 mod lumps;
 mod seeks;
 mod segments;
@@ -14,6 +15,7 @@ use batches::WrongBatch;
 use differential::{run, Answers, Failure, Plan};
 use feeds::WrongFeed;
 use groups::WrongGroup;
+use halves::WrongHalf;
 use lumps::{Lent, WrongLump, WrongReader};
 use script::{Batch, Declined, Poke, Second, Subject};
 use second::{
@@ -46,6 +48,7 @@ enum Wrong {
     Batch(WrongBatch),
     Feed(WrongFeed),
     Group(WrongGroup),
+    Half(WrongHalf),
     Lump(WrongLump),
     Seek(WrongSeek),
     Segment(WrongSegment),
@@ -157,8 +160,10 @@ impl Subject for Build {
         end: f64,
         fates: &mut [Fate],
     ) -> Result<usize, u32> {
-        if let Wrong::Group(wrong) = self.wrong {
-            return wrong.remove(state, start, end, fates);
+        match self.wrong {
+            Wrong::Group(wrong) => return wrong.remove(state, start, end, fates),
+            Wrong::Half(wrong) => return wrong.remove(state, start, end, fates),
+            _ => {}
         }
         let before = state.head;
         let result = self.second.remove(state, start, end, fates);
@@ -169,6 +174,9 @@ impl Subject for Build {
     }
 
     fn set_offset(&mut self, state: &mut State, seconds: f64) -> Result<(), u32> {
+        if let Wrong::Half(wrong) = self.wrong {
+            return wrong.set_offset(state, seconds);
+        }
         let result = self.second.set_offset(state, seconds);
         let offset = &mut state.head.settings.offset;
         if self.wrong == Wrong::CutsMicroseconds && result.is_ok() {
@@ -287,15 +295,24 @@ impl Subject for Build {
     }
 
     fn set_window_start(&mut self, state: &mut State, seconds: f64) -> Result<(), u32> {
-        self.second.set_window_start(state, seconds)
+        match self.wrong {
+            Wrong::Half(wrong) => wrong.set_window_start(state, seconds),
+            _ => self.second.set_window_start(state, seconds),
+        }
     }
 
     fn set_window_end(&mut self, state: &mut State, seconds: f64) -> Result<(), u32> {
-        self.second.set_window_end(state, seconds)
+        match self.wrong {
+            Wrong::Half(wrong) => wrong.set_window_end(state, seconds),
+            _ => self.second.set_window_end(state, seconds),
+        }
     }
 
     fn read_settings(&mut self, state: &State) -> Result<Reading, u32> {
-        self.second.read_settings(state)
+        match self.wrong {
+            Wrong::Half(wrong) => wrong.read_settings(state),
+            _ => self.second.read_settings(state),
+        }
     }
 
     fn common_ranges(&mut self, state: &State, list: &mut [Stretch]) -> Result<usize, u32> {
@@ -419,6 +436,32 @@ fn a_last_group_that_both_get_wrong_is_caught() {
         let due = parting.other.starts_with("in the last group: refused 9");
         assert!(due, "{parting}");
     }
+}
+
+#[test]
+fn every_wrong_half_is_caught_by_a_short_script() {
+    for wrong in WrongHalf::ALL {
+        let failure = put_to(Wrong::Half(wrong)).expect_err("a difference");
+        println!("{wrong:?}: {failure}\n");
+        assert!(failure.script.len() <= 8, "{wrong:?}: {failure}");
+    }
+}
+
+#[test]
+fn halves_that_both_get_wrong_are_missed() {
+    let answers = put_to_both(Wrong::Half(WrongHalf::ToEven));
+    let gaps = answers.expect("no difference").gaps();
+    let is_missed = |what: &str| gaps.iter().any(|gap| gap == what);
+    for what in [
+        "half handed in, offset below zero, even below: never",
+        "half handed in, window end up from the start: never",
+        "half handed in, removal start up from a frame, which stays: never",
+        "settings refused 1 for a half: 0 times",
+    ] {
+        assert!(is_missed(what), "{what}");
+    }
+    let odd = "half handed in, offset below zero, odd below: never";
+    assert!(!is_missed(odd), "{odd}");
 }
 
 #[test]

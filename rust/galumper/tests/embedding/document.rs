@@ -12,7 +12,7 @@ pub fn document() -> String {
 }
 
 /// The calls of the header, each with its refusals as the comment before it ends, or `never`.
-fn calls(header: &str) -> Vec<(String, String)> {
+pub fn calls(header: &str) -> Vec<(String, String)> {
     let mut parts = header.split("/* ---- ");
     let calls = parts.find(|part| part.starts_with("the calls"));
     let calls = calls.expect("the calls").replace("\n * ", " ");

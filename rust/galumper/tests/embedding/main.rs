@@ -1,5 +1,6 @@
 //! What programs in C and C++ meet: the programs of `docs/EMBEDDING.md`, and the header.
 
+mod again;
 mod batch;
 mod calls;
 mod compiler;
