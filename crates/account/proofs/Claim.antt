@@ -6,7 +6,7 @@ use mathlib.Core.List.{List, [], ◌∷◌, map}
 use Prim.Native.Nat.{ℕ, zero, suc}
 use native.Mathlib.Nat.{zero-add}
 use contract.Lifetimes.{Lfts}
-use denote.Ref.{Bor}
+use denote.Ref.{Bor, MutBor}
 use lib.Dec.{ltb, eqb}
 use lib.IntN.{ℤ}
 use lib.Ieee.{Float}
@@ -203,6 +203,10 @@ every-history {kinds} {ms} {t} (from lent times tags r ts gs κs h accepted k) =
 abbrev pub lend : {A : Type 0} → A → Bor A
 lend d = record { ref_ptr = (0, 0); now = d }
 
+-- the same, to be written
+abbrev pub lend_mut : {A : Type 0} → A → MutBor A
+lend_mut d = record { ref_ptr = (0, 0); ghost_name = 0; now = d }
+
 abbrev pub two : Lfts 2
 two = ([], ([], tt))
 
@@ -238,11 +242,11 @@ onward s [] = record { made = []; same = refl; last = s; steps = none }
 onward s (append f d ∷ gs) =
     let x = append_result (length d) f s.head s.times s.tags in
     let u : Lent = record { head = (counted s.head x).head; times = times_after x s.times; tags = tags_after x s.tags } in
-    first {u = u} (λ ms t k. by_append f (lend s.times) (lend s.tags) (lend d) (counted s.head x) u.times u.tags (list_after x d) three (refl, (refl, (refl, refl))) k) (onward u gs)
+    first {u = u} (λ ms t k. by_append f (lend_mut s.times) (lend_mut s.tags) (lend_mut d) (counted s.head x) u.times u.tags (list_after x d) three (refl, (refl, (refl, refl))) k) (onward u gs)
 onward s (remove start end d ∷ gs) =
     let x = remove_result (length d) start end s.head s.times s.tags in
     let u : Lent = record { head = (counted s.head x).head; times = times_after x s.times; tags = tags_after x s.tags } in
-    first {u = u} (λ ms t k. by_remove start end (lend s.times) (lend s.tags) (lend d) (counted s.head x) u.times u.tags (list_after x d) three (refl, (refl, (refl, refl))) k) (onward u gs)
+    first {u = u} (λ ms t k. by_remove start end (lend_mut s.times) (lend_mut s.tags) (lend_mut d) (counted s.head x) u.times u.tags (list_after x d) three (refl, (refl, (refl, refl))) k) (onward u gs)
 onward s (abort ∷ gs) =
     let r = abort_answer s.head s.times s.tags in
     first {u = under s r} (λ ms t k. by_abort (lend s.times) (lend s.tags) r two refl k) (onward (under s r) gs)
@@ -262,15 +266,15 @@ onward s (read_settings ∷ gs) =
     first {u = s} (λ ms t k. by_reading (lend s.times) (lend s.tags) (settings_answer s.head s.times s.tags) two refl k) (onward s gs)
 onward s (track_ranges track d ∷ gs) =
     let x = track_ranges_result (length d) track s.head s.times s.tags in
-    first {u = s} (λ ms t k. by_track_ranges track (lend s.times) (lend s.tags) (lend d) (range_count x) (ranges_after x d) three (record { answer = refl; list = refl }) k) (onward s gs)
+    first {u = s} (λ ms t k. by_track_ranges track (lend s.times) (lend s.tags) (lend_mut d) (range_count x) (ranges_after x d) three (record { answer = refl; list = refl }) k) (onward s gs)
 onward s (common_ranges d ∷ gs) =
     let x = common_ranges_result (length d) s.head s.times s.tags in
-    first {u = s} (λ ms t k. by_common_ranges (lend s.times) (lend s.tags) (lend d) (range_count x) (ranges_after x d) three (record { answer = refl; list = refl }) k) (onward s gs)
+    first {u = s} (λ ms t k. by_common_ranges (lend s.times) (lend s.tags) (lend_mut d) (range_count x) (ranges_after x d) three (record { answer = refl; list = refl }) k) (onward s gs)
 onward s (batch rows d ∷ gs) =
     let x = batch_result (length d) (map offered_in rows) s.head s.times s.tags in
     let o = outcome_of x in
     let u : Lent = record { head = (batched s.head x).head; times = times_after o s.times; tags = tags_after o s.tags } in
-    first {u = u} (λ ms t k. by_batch (lend rows) (lend s.times) (lend s.tags) (lend d) (batched s.head x) u.times u.tags (list_after o d) four (refl, (refl, (refl, refl))) k) (onward u gs)
+    first {u = u} (λ ms t k. by_batch (lend rows) (lend_mut s.times) (lend_mut s.tags) (lend_mut d) (batched s.head x) u.times u.tags (list_after o d) four (refl, (refl, (refl, refl))) k) (onward u gs)
 onward s (walked track room ∷ gs) =
     let r = taken_count (walked_result room track s.head s.times s.tags) in
     first {u = s} (λ ms t k. by_walk track room (lend s.times) (lend s.tags) r two refl k) (onward s gs)
@@ -288,7 +292,7 @@ some-history kinds ts fs gs made =
       made = o.made;
       same = o.same;
       last = o.last;
-      history = from (lend kinds) (lend ts) (lend fs) r (times_created (create kinds) ts) (tags_created (create kinds) fs) three (refl, (refl, refl))
+      history = from (lend kinds) (lend_mut ts) (lend_mut fs) r (times_created (create kinds) ts) (tags_created (create kinds) fs) three (refl, (refl, refl))
           (ap (λ (x : CallResult Buffer). (changed zero_head x).answer) made) o.steps;
     }
 
@@ -296,15 +300,16 @@ some-history kinds ts fs gs made =
 
 -- no call asks anything of its caller
 pub free : (κs : Lfts 2) (λs : Lfts 3) (μs : Lfts 4) (h : Head) (f : Offered) (m : Mode) (x y : Float) (track room : ℕ) (t : ℤ) (kinds : Bor (List ℕ))
-    (times : Bor (List (List ℤ))) (tags : Bor (List (List ℕ))) (fates : Bor (List (List ℕ))) (list rows : Bor (List (List ℤ)))
-    → Create.Asked λs (kinds, (times, (tags, tt))) × Append.Asked λs (h, (f, (times, (tags, (fates, tt)))))
-    × Remove.Asked λs (h, (x, (y, (times, (tags, (fates, tt)))))) × Abort.Asked κs (h, (times, (tags, tt)))
+    (times : Bor (List (List ℤ))) (tags : Bor (List (List ℕ))) (rows : Bor (List (List ℤ)))
+    (timesMut : MutBor (List (List ℤ))) (tagsMut fates : MutBor (List (List ℕ))) (list : MutBor (List (List ℤ)))
+    → Create.Asked λs (kinds, (timesMut, (tagsMut, tt))) × Append.Asked λs (h, (f, (timesMut, (tagsMut, (fates, tt)))))
+    × Remove.Asked λs (h, (x, (y, (timesMut, (tagsMut, (fates, tt)))))) × Abort.Asked κs (h, (times, (tags, tt)))
     × SetMode.Asked κs (h, (times, (tags, (m, tt)))) × SetOffset.Asked κs (h, (times, (tags, (x, tt))))
     × SetWindowStart.Asked κs (h, (times, (tags, (x, tt)))) × SetWindowEnd.Asked κs (h, (times, (tags, (x, tt))))
     × ReadSettings.Asked κs (h, (times, (tags, tt))) × TrackRanges.Asked λs (h, (times, (tags, (track, (list, tt)))))
-    × CommonRanges.Asked λs (h, (times, (tags, (list, tt)))) × Batch.Asked μs (h, (rows, (times, (tags, (fates, tt)))))
+    × CommonRanges.Asked λs (h, (times, (tags, (list, tt)))) × Batch.Asked μs (h, (rows, (timesMut, (tagsMut, (fates, tt)))))
     × Walked.Asked κs (h, (times, (tags, (track, (room, tt))))) × Seek.Asked κs (h, (times, (tags, (track, (t, tt)))))
-free κs λs μs h f m x y track room t kinds times tags fates list rows = (tt, tt, tt, tt, tt, tt, tt, tt, tt, tt, tt, tt, tt, tt)
+free κs λs μs h f m x y track room t kinds times tags rows timesMut tagsMut fates list = (tt, tt, tt, tt, tt, tt, tt, tt, tt, tt, tt, tt, tt, tt)
 
 -- the running code meets the contracts of which a history is made
 pub code_meets : {M : Type 1}

@@ -1,8 +1,8 @@
 -- Document 01, "The whole account": a history of calls on one buffer, each step what the function's own contract says of that call,
 -- and the claim of demand 3 about every history.
-use Rattle.std.specs.Prelude.{◌≡◌, true, cond, ◌&&◌, List, [], ◌∷◌, map, ℕ, ◌+◌, leb, ℤ, Float, length, take}
+use Rattle.std.specs.Prelude.{◌≡◌, true, List, [], ◌∷◌, map, ℕ, ℤ, Float, length, take}
 use contract.Lifetimes.{Lfts}
-use denote.Ref.{MutBor, at_last}
+use denote.Ref.{Bor, MutBor, at_last}
 use Rattle.buffer_state.specs.declared.Answer.TheVariants.{Done}
 use Rattle.buffer_state.specs.declared.Batched.{Batched}
 use Rattle.buffer_state.specs.declared.Changed.{Changed}
@@ -15,10 +15,10 @@ use Rattle.buffer_state.specs.declared.Sought.{Sought}
 use Rattle.buffer_state.specs.Batch.{append_each}
 use Rattle.buffer_state.specs.Buffer.{fresh}
 use Rattle.buffer_state.specs.Groups.{SparesGroup}
-use Rattle.buffer_state.specs.Lent.{Lent, lent_of, buffer_in}
-use Rattle.buffer_state.specs.Run.{Entry, run, last_of, offers, found_stored, found_told, offered_on, stored_on, dropped_on, removed_on, on_offered}
+use Rattle.buffer_state.specs.Lent.{Lent, lent_of}
+use Rattle.buffer_state.specs.Run.{run, last_of, offers}
 use Rattle.buffer_state.specs.Seek.{is_led}
-use Rattle.buffer_state.specs.WellFormed.{all_of}
+pub use Rattle.account.specs.Account.{IsAccount}
 use Rattle.account.specs.Made.{Given, append, remove, abort, set_mode, set_offset, set_window_start, set_window_end, read_settings, track_ranges, common_ranges, batch, walked, seek, Made, calls, entries, AllKept}
 use Rattle.settings.proofs.create.Reads as Create
 use Rattle.settings.proofs.abort.Reads as Abort
@@ -34,6 +34,10 @@ use Rattle.ranges.proofs.track_ranges.Reads as TrackRanges
 use Rattle.ranges.proofs.common_ranges.Reads as CommonRanges
 use Rattle.ranges.proofs.walked.Reads as Walked
 use Rattle.seek.proofs.seek.Reads as Seek
+
+-- a reference that only reads, as it is, over what is behind it
+abbrev pub over : {A : Type 0} → Bor A → A → Bor A
+over x w = record { ref_ptr = x.ref_ptr; now = w }
 
 -- From one state to another by calls, each handed the head last given and lent the arrays as the last call left them; a call that only
 -- reads leaves all of it. A reference may be any: of those to the arrays, what is behind them is the state's.
@@ -51,78 +55,67 @@ pub data From : Lent → List Made → Lent → Type 0 where
       (s.head, (start, (end, (at_last times ts, (at_last tags gs, (at_last lent after, tt))))))
       → From (record { head = r.head; times = ts; tags = gs }) ms t
       → From s (record { given = remove start end lent.now; back = record { answer = r.answer; after = after } } ∷ ms) t
-  by_abort : {s t : Lent} {ms : List Made} (times : MutBor (List (List ℤ))) (tags : MutBor (List (List ℕ))) (r : Changed) (κs : Lfts 2)
-      → Abort.Learnt κs (s.head, (at_last times s.times, (at_last tags s.tags, tt))) r (s.head, (at_last times s.times, (at_last tags s.tags, tt)))
+  by_abort : {s t : Lent} {ms : List Made} (times : Bor (List (List ℤ))) (tags : Bor (List (List ℕ))) (r : Changed) (κs : Lfts 2)
+      → Abort.Learnt κs (s.head, (over times s.times, (over tags s.tags, tt))) r (s.head, (over times s.times, (over tags s.tags, tt)))
       → From (record { head = r.head; times = s.times; tags = s.tags }) ms t
       → From s (record { given = abort; back = r.answer } ∷ ms) t
-  by_mode : {s t : Lent} {ms : List Made} (m : Mode) (times : MutBor (List (List ℤ))) (tags : MutBor (List (List ℕ))) (r : Changed) (κs : Lfts 2)
-      → SetMode.Learnt κs (s.head, (at_last times s.times, (at_last tags s.tags, (m, tt)))) r (s.head, (at_last times s.times, (at_last tags s.tags, (m, tt))))
+  by_mode : {s t : Lent} {ms : List Made} (m : Mode) (times : Bor (List (List ℤ))) (tags : Bor (List (List ℕ))) (r : Changed) (κs : Lfts 2)
+      → SetMode.Learnt κs (s.head, (over times s.times, (over tags s.tags, (m, tt)))) r (s.head, (over times s.times, (over tags s.tags, (m, tt))))
       → From (record { head = r.head; times = s.times; tags = s.tags }) ms t
       → From s (record { given = set_mode m; back = r.answer } ∷ ms) t
-  by_offset : {s t : Lent} {ms : List Made} (x : Float) (times : MutBor (List (List ℤ))) (tags : MutBor (List (List ℕ))) (r : Changed) (κs : Lfts 2)
-      → SetOffset.Learnt κs (s.head, (at_last times s.times, (at_last tags s.tags, (x, tt)))) r (s.head, (at_last times s.times, (at_last tags s.tags, (x, tt))))
+  by_offset : {s t : Lent} {ms : List Made} (x : Float) (times : Bor (List (List ℤ))) (tags : Bor (List (List ℕ))) (r : Changed) (κs : Lfts 2)
+      → SetOffset.Learnt κs (s.head, (over times s.times, (over tags s.tags, (x, tt)))) r (s.head, (over times s.times, (over tags s.tags, (x, tt))))
       → From (record { head = r.head; times = s.times; tags = s.tags }) ms t
       → From s (record { given = set_offset x; back = r.answer } ∷ ms) t
-  by_window_start : {s t : Lent} {ms : List Made} (x : Float) (times : MutBor (List (List ℤ))) (tags : MutBor (List (List ℕ))) (r : Changed) (κs : Lfts 2)
-      → SetWindowStart.Learnt κs (s.head, (at_last times s.times, (at_last tags s.tags, (x, tt)))) r (s.head, (at_last times s.times, (at_last tags s.tags, (x, tt))))
+  by_window_start : {s t : Lent} {ms : List Made} (x : Float) (times : Bor (List (List ℤ))) (tags : Bor (List (List ℕ))) (r : Changed) (κs : Lfts 2)
+      → SetWindowStart.Learnt κs (s.head, (over times s.times, (over tags s.tags, (x, tt)))) r (s.head, (over times s.times, (over tags s.tags, (x, tt))))
       → From (record { head = r.head; times = s.times; tags = s.tags }) ms t
       → From s (record { given = set_window_start x; back = r.answer } ∷ ms) t
-  by_window_end : {s t : Lent} {ms : List Made} (x : Float) (times : MutBor (List (List ℤ))) (tags : MutBor (List (List ℕ))) (r : Changed) (κs : Lfts 2)
-      → SetWindowEnd.Learnt κs (s.head, (at_last times s.times, (at_last tags s.tags, (x, tt)))) r (s.head, (at_last times s.times, (at_last tags s.tags, (x, tt))))
+  by_window_end : {s t : Lent} {ms : List Made} (x : Float) (times : Bor (List (List ℤ))) (tags : Bor (List (List ℕ))) (r : Changed) (κs : Lfts 2)
+      → SetWindowEnd.Learnt κs (s.head, (over times s.times, (over tags s.tags, (x, tt)))) r (s.head, (over times s.times, (over tags s.tags, (x, tt))))
       → From (record { head = r.head; times = s.times; tags = s.tags }) ms t
       → From s (record { given = set_window_end x; back = r.answer } ∷ ms) t
-  by_reading : {s t : Lent} {ms : List Made} (times : MutBor (List (List ℤ))) (tags : MutBor (List (List ℕ))) (r : Read) (κs : Lfts 2)
-      → ReadSettings.Learnt κs (s.head, (at_last times s.times, (at_last tags s.tags, tt))) r (s.head, (at_last times s.times, (at_last tags s.tags, tt)))
+  by_reading : {s t : Lent} {ms : List Made} (times : Bor (List (List ℤ))) (tags : Bor (List (List ℕ))) (r : Read) (κs : Lfts 2)
+      → ReadSettings.Learnt κs (s.head, (over times s.times, (over tags s.tags, tt))) r (s.head, (over times s.times, (over tags s.tags, tt)))
       → From s ms t
       → From s (record { given = read_settings; back = r } ∷ ms) t
-  by_track_ranges : {s t : Lent} {ms : List Made} (track : ℕ) (times : MutBor (List (List ℤ))) (tags : MutBor (List (List ℕ))) (lent : MutBor (List (List ℤ)))
+  by_track_ranges : {s t : Lent} {ms : List Made} (track : ℕ) (times : Bor (List (List ℤ))) (tags : Bor (List (List ℕ))) (lent : MutBor (List (List ℤ)))
       (r : Count) (after : List (List ℤ)) (κs : Lfts 3)
-      → TrackRanges.Learnt κs (s.head, (at_last times s.times, (at_last tags s.tags, (track, (lent, tt))))) r
-      (s.head, (at_last times s.times, (at_last tags s.tags, (track, (at_last lent after, tt)))))
+      → TrackRanges.Learnt κs (s.head, (over times s.times, (over tags s.tags, (track, (lent, tt))))) r
+      (s.head, (over times s.times, (over tags s.tags, (track, (at_last lent after, tt)))))
       → From s ms t
       → From s (record { given = track_ranges track lent.now; back = record { answer = r; after = after } } ∷ ms) t
-  by_common_ranges : {s t : Lent} {ms : List Made} (times : MutBor (List (List ℤ))) (tags : MutBor (List (List ℕ))) (lent : MutBor (List (List ℤ)))
+  by_common_ranges : {s t : Lent} {ms : List Made} (times : Bor (List (List ℤ))) (tags : Bor (List (List ℕ))) (lent : MutBor (List (List ℤ)))
       (r : Count) (after : List (List ℤ)) (κs : Lfts 3)
-      → CommonRanges.Learnt κs (s.head, (at_last times s.times, (at_last tags s.tags, (lent, tt)))) r
-      (s.head, (at_last times s.times, (at_last tags s.tags, (at_last lent after, tt))))
+      → CommonRanges.Learnt κs (s.head, (over times s.times, (over tags s.tags, (lent, tt)))) r
+      (s.head, (over times s.times, (over tags s.tags, (at_last lent after, tt))))
       → From s ms t
       → From s (record { given = common_ranges lent.now; back = record { answer = r; after = after } } ∷ ms) t
-  by_batch : {s t : Lent} {ms : List Made} (rows : MutBor (List (List ℤ))) (times : MutBor (List (List ℤ))) (tags lent : MutBor (List (List ℕ)))
+  by_batch : {s t : Lent} {ms : List Made} (rows : Bor (List (List ℤ))) (times : MutBor (List (List ℤ))) (tags lent : MutBor (List (List ℕ)))
       (r : Batched) (ts : List (List ℤ)) (gs after : List (List ℕ)) (κs : Lfts 4)
       → Batch.Learnt κs (s.head, (rows, (at_last times s.times, (at_last tags s.tags, (lent, tt))))) r
       (s.head, (rows, (at_last times ts, (at_last tags gs, (at_last lent after, tt)))))
       → From (record { head = r.head; times = ts; tags = gs }) ms t
       → From s (record { given = batch rows.now lent.now; back = record { answer = r.answer; after = after } } ∷ ms) t
-  by_walk : {s t : Lent} {ms : List Made} (track room : ℕ) (times : MutBor (List (List ℤ))) (tags : MutBor (List (List ℕ))) (r : Count) (κs : Lfts 2)
-      → Walked.Learnt κs (s.head, (at_last times s.times, (at_last tags s.tags, (track, (room, tt))))) r
-      (s.head, (at_last times s.times, (at_last tags s.tags, (track, (room, tt)))))
+  by_walk : {s t : Lent} {ms : List Made} (track room : ℕ) (times : Bor (List (List ℤ))) (tags : Bor (List (List ℕ))) (r : Count) (κs : Lfts 2)
+      → Walked.Learnt κs (s.head, (over times s.times, (over tags s.tags, (track, (room, tt))))) r
+      (s.head, (over times s.times, (over tags s.tags, (track, (room, tt)))))
       → From s ms t
       → From s (record { given = walked track room; back = r } ∷ ms) t
-  by_seek : {s u : Lent} {ms : List Made} (track : ℕ) (t : ℤ) (times : MutBor (List (List ℤ))) (tags : MutBor (List (List ℕ))) (r : Sought) (κs : Lfts 2)
-      → Seek.Learnt κs (s.head, (at_last times s.times, (at_last tags s.tags, (track, (t, tt))))) r
-      (s.head, (at_last times s.times, (at_last tags s.tags, (track, (t, tt)))))
+  by_seek : {s u : Lent} {ms : List Made} (track : ℕ) (t : ℤ) (times : Bor (List (List ℤ))) (tags : Bor (List (List ℕ))) (r : Sought) (κs : Lfts 2)
+      → Seek.Learnt κs (s.head, (over times s.times, (over tags s.tags, (track, (t, tt))))) r
+      (s.head, (over times s.times, (over tags s.tags, (track, (t, tt)))))
       → From s ms u
       → From s (record { given = seek track t; back = r } ∷ ms) u
 
 -- From a creation that was not refused: the kinds, the calls made, the last state. What the arrays held before it is any.
 pub data IsHistory : List ℕ → List Made → Lent → Type 0 where
-  from : {ms : List Made} {t : Lent} (kinds : MutBor (List ℕ)) (times : MutBor (List (List ℤ))) (tags : MutBor (List (List ℕ)))
+  from : {ms : List Made} {t : Lent} (kinds : Bor (List ℕ)) (times : MutBor (List (List ℤ))) (tags : MutBor (List (List ℕ)))
       (r : Changed) (ts : List (List ℤ)) (gs : List (List ℕ)) (κs : Lfts 3)
       → Create.Learnt κs (kinds, (times, (tags, tt))) r (kinds, (at_last times ts, (at_last tags gs, tt)))
       → r.answer ≡ Done
       → From (record { head = r.head; times = ts; tags = gs }) ms t
       → IsHistory kinds.now ms t
-
--- What holds of calls with their results, and of the state after them.
-pub record IsAccount (es : List Entry) (t : Lent) : Type 0 where
-  -- the last number given is how many frames were offered and accepted
-  pub last : t.head.last ≡ length (offers es)
-  -- a stored frame stands on the track that it named when it was offered under its number
-  pub placed : all_of (on_offered (offers es)) (buffer_in t).frames ≡ true
-  -- each number given is found exactly once, on one stored frame or on one line handed out, and no other number is found
-  pub found : (k : ℕ) → found_stored k (buffer_in t) + found_told k es ≡ cond (leb 1 k && leb k (length (offers es))) 1 0
-  -- on each track offered equals stored plus dropped plus removed
-  pub balance : (track : ℕ) → offered_on track es ≡ stored_on track (buffer_in t) + (dropped_on track es + removed_on track es)
 
 -- THE CLAIM about a history: kinds, calls made, last state. The plain run is fed the kinds and the calls' arguments alone.
 pub record Claim (kinds : List ℕ) (ms : List Made) (t : Lent) : Type 0 where

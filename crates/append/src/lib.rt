@@ -1,5 +1,7 @@
 // Appending one frame. Steps 1 to 6 work on the head of the state (the crate heads); the frames are lent as two arrays and changed in
 // place, after every refusal is decided. The crate batch appends many, to a state that is tested once.
+#![tactic(auto)]
+
 ghost use Rattle.std.specs.Prelude.{◌≡◌, true, ◌&&◌, ◌||◌, ◌≤◌, ◌<◌, length, take, eqb};
 ghost use Rattle.std.specs.Int.Signed.{le_z};
 ghost use Rattle.buffer_state.specs.declared.Frame.{Frame};
@@ -27,7 +29,7 @@ const LAST_NUMBER: u32 = 4294967295;
 const PAST_LIMITS: i64 = 4000000000001; // the first microsecond past the limits
 
 // An instant before which every frame of a track is presented.
-#[derive(Drop)]
+#[derive(Clone, Copy)]
 pub struct Bound {
     pub micros: i64,
 }

@@ -1,5 +1,7 @@
 // Appending a batch: the frames of a whole segment, one by one, to a state that is tested once. An append leaves a well-formed state
 // well-formed, so that none is tested again; and a frame that comes after all of its track is stored without a search for what it overlaps.
+#![tactic(auto)]
+
 ghost use Rattle.std.specs.Prelude.{◌≡◌, true, cond, map, ◌++◌, ◌+◌, ◌≤◌, ◌<◌, pos, ◌+ℤ◌, length, take, drop};
 ghost use Rattle.std.specs.Int.Signed.{le_z};
 ghost use Rattle.buffer_state.specs.Answers.{counted, times_after, tags_after, list_after, append_result, batched, outcome_of, batch_result};

@@ -1,5 +1,7 @@
 // Boxes of ISO/IEC 14496-12 over a lent slice: big-endian numbers, a cursor by value, and the one box of a type that a body must have.
 // Each body is handed on as a part of the slice.
+#![tactic(auto)]
+
 ghost use Rattle.std.specs.Prelude.{◌≡◌, ◌+◌, ◌≤◌, ◌<◌, length, drop};
 ghost use Rattle.boxes.specs.Boxes.{be4, be8, sized_of, front_of, step_at, boxes_of};
 ghost use Rattle.boxes.specs.Lone.{lone_in, part_of, held_by, Within};

@@ -75,6 +75,7 @@ cut-length whole [] c = omega arith
 cut-length whole (g ∷ gs) c = omega (arith, ap length c.parts, length-append c.ahead (g ∷ gs))
 
 cut_in : {x : Frame} (whole later : List Frame) → CutAs whole later → In x later → In x whole
+cut_in {x = x} whole [] c i = elim i [ ]
 cut_in {x} whole (g ∷ gs) c i = subst (In x) (sym c.parts) (in-behind c.ahead (g ∷ gs) i)
 
 -- ---- its order
@@ -112,6 +113,7 @@ up_to-self f fs e =
 
 up_to-last : (f : Frame) (fs : List Frame) → is_sorted fs ≡ true → In f fs → (z : Frame) → last_in z (up_to f fs) ≡ f
 unfolding is_sorted up_to
+up_to-last f [] e x'' z = elim x'' [ ]
 up_to-last f (g ∷ gs) e (here q) z =
     subst (λ (x : Frame). last_in z (up_to x (g ∷ gs)) ≡ x) (sym q) (ap (last_in z) (up_to-self g gs (pairs_first is_before g gs e)))
 up_to-last f (g ∷ gs) e (there i) z =

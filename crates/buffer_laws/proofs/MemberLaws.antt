@@ -19,6 +19,7 @@ none_in h = elim h [ ]
 module _ {A : Type 0} (p : A → Bool) where
   -- what all pass, each passes, and the other way round
   pub all_in : {x : A} (xs : List A) → all_of p xs ≡ true → In x xs → p x ≡ true
+  all_in [] e x3 = elim x3 [ ]
   all_in (y ∷ ys) e (here q) = ap p q ∙ all_first p y ys e
   all_in (y ∷ ys) e (there i) = all_in ys (all_rest p y ys e) i
 
@@ -28,6 +29,7 @@ module _ {A : Type 0} (p : A → Bool) where
 
   pub in_some : {x : A} (xs : List A) → In x xs → p x ≡ true → some_of p xs ≡ true
   unfolding some_of
+  in_some [] x3 e = elim x3 [ ]
   in_some (y ∷ ys) (here q) e = or_left (p y) _ (ap p (sym q) ∙ e)
   in_some (y ∷ ys) (there i) e = or_right (p y) _ (in_some ys i e)
 
@@ -75,6 +77,7 @@ module _ {A : Type 0} (p : A → Bool) where
 
   pub in-only : {x : A} (xs : List A) → In x xs → p x ≡ true → In x (only p xs)
   unfolding only
+  in-only {x = x} [] x3 e = elim x3 [ ]
   in-only {x} (y ∷ ys) (here q) e = subst (λ (b : Bool). In x (cond b (y ∷ only p ys) (only p ys))) (sym e ∙ ap p q) (here q)
   in-only {x} (y ∷ ys) (there i) e = by-test (In x) (p y) (λ _. there (in-only ys i e)) (λ _. in-only ys i e)
 

@@ -157,6 +157,7 @@ module _ (f : Frame) where
 
   insert-in : {x : Frame} (fs : List Frame) → In x fs → In x (insert_sorted f fs)
   unfolding insert_sorted
+  insert-in {x = x} [] x'' = elim x'' [ ]
   insert-in {x} (g ∷ gs) (here q) = by-test (In x) (is_before f g) (λ _. there (here q)) (λ _. here q)
   insert-in {x} (g ∷ gs) (there i) = by-test (In x) (is_before f g) (λ _. there (there i)) (λ _. there (insert-in gs i))
 

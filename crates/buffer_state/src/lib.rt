@@ -1,12 +1,14 @@
 // The types of a frame buffer's state, and what its calls are handed and answer. The caller owns the state: a Head by value, and the
 // stored frames in two lent arrays of numbers, rows of times and rows of tags. specs/Lent.antt says how they hold a state; what each
 // call does to it is defined in specs/, a file for each section of document 01.
+#![tactic(auto)]
+
 ghost use Rattle.std.specs.Prelude.{◌≡◌};
 ghost use Rattle.buffer_state.specs.Answers.{counted};
 ghost use Rattle.buffer_state.specs.Refusals.{refusal_number, stop_number, refused};
 
 // A coded frame as offered to an append. Times are microseconds.
-#[derive(Drop)]
+#[derive(Clone, Copy)]
 pub struct Offered {
     pub track: u32,
     pub flagged: bool, // a random access point
@@ -16,7 +18,7 @@ pub struct Offered {
 }
 
 // A stored coded frame. Its times have the timestamp offset added.
-#[derive(Drop)]
+#[derive(Clone, Copy)]
 pub struct Frame {
     pub track: u32,
     pub flagged: bool,
@@ -29,7 +31,7 @@ pub struct Frame {
 
 // A track buffer. The last decode timestamp, the last frame duration and the highest end timestamp are
 // set together and unset together, so one flag says which; unset they are kept as zero.
-#[derive(Drop)]
+#[derive(Clone, Copy)]
 pub struct Track {
     pub kind: u8, // 0 video, 1 audio
     pub known: bool,
@@ -39,14 +41,14 @@ pub struct Track {
     pub end: i64,
 }
 
-#[derive(Drop)]
+#[derive(Clone, Copy)]
 pub enum Mode {
     Segments,
     Sequence,
 }
 
 // The coded frame group: the group start timestamp (kept as zero where it is unset), the group end timestamp, and the group number.
-#[derive(Drop)]
+#[derive(Clone, Copy)]
 pub struct Group {
     pub begun: bool, // the group start is set
     pub start: i64,
@@ -55,20 +57,20 @@ pub struct Group {
 }
 
 // A setting: the double as it was given, bit for bit, beside its microseconds.
-#[derive(Drop)]
+#[derive(Clone, Copy)]
 pub struct Setting {
     pub seconds: f64,
     pub micros: i64,
 }
 
 // The append window's end: none, or the double given.
-#[derive(Drop)]
+#[derive(Clone, Copy)]
 pub enum WindowEnd {
     Unbounded,
     At(f64),
 }
 
-#[derive(Drop)]
+#[derive(Clone, Copy)]
 pub struct Settings {
     pub offset: Setting, // timestamp offset
     pub start: Setting, // append window start
@@ -89,7 +91,7 @@ pub type Times = [[i64; 2]; PLACES];
 pub type Tags = [[u32; 5]; PLACES];
 
 // All of a state but its frames.
-#[derive(Drop)]
+#[derive(Clone, Copy)]
 pub struct Head {
     pub tracks: [Track; 4],
     pub ntracks: usize,
@@ -101,7 +103,7 @@ pub struct Head {
 }
 
 // Why a call is refused, in the order of the table of documents 01 and 02; specs/Refusals.antt gives the numbers.
-#[derive(Drop)]
+#[derive(Clone, Copy)]
 pub enum Refusal {
     IllFormed,
     ShortFates,
@@ -189,7 +191,7 @@ pub fn refuse(h: Head, why: Refusal) -> Counted
 }
 
 // What stopped a batch, if anything did: the refusal of a frame.
-#[derive(Drop)]
+#[derive(Clone, Copy)]
 pub enum Stop {
     Nothing,
     By(Refusal),

@@ -21,7 +21,7 @@ use Rattle.buffer_state.specs.Settings.{create}
 use Rattle.buffer_state.specs.WellFormed.{good_buffer}
 use Rattle.buffer_laws.proofs.GoodLaws.{facts-good}
 use Rattle.buffer_laws.proofs.LentLaws.{held_back}
-use Rattle.account.specs.History.{IsAccount}
+use Rattle.account.specs.Account.{IsAccount}
 use Rattle.account.proofs.Claim.{created, fresh-good, run-accounts}
 use Rattle.call_rows.specs.Replies.{lent}
 use Rattle.call_list.specs.declared.Ending as End

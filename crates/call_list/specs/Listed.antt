@@ -7,7 +7,7 @@ use Rattle.buffer_state.specs.Refusals.{CallResult, refused, done}
 use Rattle.buffer_state.specs.Run.{Call, Answer, ok, fates, settings, ranges, accepted, taken, decoding, Entry, run, last_of, handed_out, accepted_in, total}
 use Rattle.buffer_state.specs.Settings.{create}
 use Rattle.buffer_state.specs.WellFormed.{good_buffer}
-use Rattle.account.specs.History.{IsAccount}
+use Rattle.account.specs.Account.{IsAccount}
 use Rattle.call_list.specs.declared.Ending as End
 use Rattle.call_list.specs.declared.Ending.TheVariants.{Done, Unfit, Refused}
 use Rattle.call_list.specs.declared.Ran.{Ran}

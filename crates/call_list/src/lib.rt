@@ -1,4 +1,6 @@
 // A list of calls, rows of numbers, run through the public functions on a fresh buffer in two lent arrays.
+#![tactic(auto)]
+
 ghost use Rattle.std.specs.Prelude.{◌≡◌, true, ◌+◌, ◌-◌, ◌≤◌, ◌<◌, leb, length, get_or};
 ghost use Rattle.buffer_state.specs.Lent.{buffer_in};
 ghost use Rattle.buffer_state.specs.Run.{total};
@@ -10,7 +12,7 @@ use buffer_state::{Answer, Head, Refusal, Tags, Times};
 use call_rows::{ABORT, APPEND, BATCH, READ, SEEK, Step, TRACK_RANGES, WALKED, wide};
 
 // How a run ends: it was run; a list is too short, a call is of no kind or names frames that are not there; the creation was refused.
-#[derive(Drop)]
+#[derive(Clone, Copy)]
 pub enum Ending {
     Done,
     Unfit,
@@ -18,7 +20,7 @@ pub enum Ending {
 }
 
 // How many places of the lists of lines, ranges and readings were written, and the last head.
-#[derive(Drop)]
+#[derive(Clone, Copy)]
 pub struct Ran {
     pub ending: Ending,
     pub lines: usize,

@@ -30,7 +30,7 @@ use Rattle.buffer_state.specs.Lent.{Lent, times_in, tags_in, lent_of, buffer_in,
 use Rattle.buffer_state.specs.Ranges.{Range, track_ranges, common_ranges}
 use Rattle.buffer_state.specs.Refusals.{CallResult, refused, done, refusal_number}
 use Rattle.buffer_state.specs.Remove.{remove}
-use Rattle.buffer_state.specs.Run.{Call, append_call, remove_call, abort_call, mode_call, offset_call, window_start_call, window_end_call, read_call, ranges_call, common_call, batch_call, walked_call, seek_call, settings, ranges, by_outcome, by_setting, by_ranges, by_batch, by_walked, by_seek, reply_to}
+use Rattle.buffer_state.specs.Run.{Call, append_call, remove_call, abort_call, mode_call, offset_call, window_start_call, window_end_call, read_call, ranges_call, common_call, batch_call, walked_call, seek_call, settings, by_outcome, by_setting, by_ranges, by_batch, by_walked, by_seek, reply_to}
 use Rattle.buffer_state.specs.Seek.{Start, seek}
 use Rattle.buffer_state.specs.Settings.{abort, mode_set, offset_set, window_start_set, window_end_set, Reading, reading}
 use Rattle.buffer_state.specs.Walked.{walked}

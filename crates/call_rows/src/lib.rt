@@ -1,4 +1,6 @@
 // A call as rows of numbers, made on any head and arrays: what it is and what it is handed; what it answered.
+#![tactic(auto)]
+
 ghost use Rattle.std.specs.Prelude.{◌≡◌, map, pos, length, get_or};
 ghost use Rattle.buffer_state.specs.Batch.{offered_in};
 ghost use Rattle.buffer_state.specs.Refusals.{refusal_number, stop_number};
@@ -41,7 +43,7 @@ pub const SEEK: u32 = 12;
 // What one call gave: its refusal number or 0; how many lines, ranges or doubles, or frames that a walk took or that a seek has to decode;
 // of a batch, how many frames were accepted and the number of the refusal that stopped it or 0; of a seek, the numbers of its target and
 // of the random access point from which to decode; the doubles of a reading; the head.
-#[derive(Drop)]
+#[derive(Clone, Copy)]
 pub struct Step {
     pub refusal: usize,
     pub count: usize,

@@ -1,4 +1,6 @@
 // What to feed a decoder: of initialization bytes and a segment, both lent, the first whole or a part of the second, never a copy.
+#![tactic(auto)]
+
 ghost use Rattle.std.specs.Prelude.{◌≡◌, length};
 ghost use Rattle.feed.specs.Feed.{is_within, feed_of, feed_at};
 ghost use Rattle.feed.specs.Parts.{part_of};

@@ -6,11 +6,11 @@ use mathlib.Core.List.{List}
 use Prim.Native.Nat.{ℕ, suc, ◌+◌, ◌*◌, ◌≤◌, ◌<◌}
 use native.Mathlib.Omega.{arith}
 use native.Mathlib.Nat.{suc-mul, mul-le-mul_right}
-use lib.IntN.{ℤ, pos, ◌-ℤ◌}
+use lib.IntN.{ℤ}
 use lib.Dec.{ltb, leb}
 use lib.ListN.{length, drop}
 use lib.Signed.{mag}
-use borrow.Author.Tests.{lt-ltb, ltb-false}
+use borrow.Author.Tests.{ltb-false}
 use Rattle.laws.proofs.BoolLaws.{by-test}
 use Rattle.boxes.specs.Boxes.{be4}
 use Rattle.fragments.specs.FullBoxes.{version_of, flag_in, optional, field_at}
@@ -33,10 +33,6 @@ row_fits b r i f h =
     let e : suc i * w ≡ i * w + w = suc-mul i w in
     let m : suc i * w ≤ r.count * w = mul-le-mul_right w h in
     omega (arith, e, m, f)
-
--- a number of 32 bits less 2^32
-pub mag-signed : (n : ℕ) → n < 4294967296 → mag (pos n -ℤ pos 4294967296) < 4294967296
-mag-signed n h = rw (lt-ltb n 4294967296 h) (omega arith)
 
 -- what is an offset is small, as that is
 pub small : {z x : ℤ} → z ≡ x → mag x < 4294967296 → (z ≡ x) × (mag z < 4294967296)

@@ -1,4 +1,6 @@
 // The boxes of a track fragment, each parser over its own body: header, decode time, run, and one sample of a run.
+#![tactic(auto)]
+
 ghost use Rattle.std.specs.Prelude.{◌≡◌, true, ◌+◌, ◌≤◌, ◌<◌, length};
 ghost use Rattle.std.specs.Int.Signed.{mag};
 ghost use Rattle.fragments.specs.FullBoxes.{flag_in, optional, field_at};
@@ -9,7 +11,7 @@ ghost use Rattle.fragments.specs.Times.{time_by, time_of};
 use media_times::Sample;
 
 // What holds of a sample that says nothing else.
-#[derive(Drop)]
+#[derive(Clone, Copy)]
 pub struct Defaults {
     pub duration: u32,
     pub size: u32,
@@ -17,14 +19,14 @@ pub struct Defaults {
 }
 
 // A track fragment's header: its track's ID, and the defaults in it.
-#[derive(Drop)]
+#[derive(Clone, Copy)]
 pub struct Header {
     pub id: u32,
     pub defaults: Defaults,
 }
 
 // A run: its version and flags as they stand, and how many samples it has.
-#[derive(Drop)]
+#[derive(Clone, Copy)]
 pub struct Run {
     pub word: u32,
     pub count: u32,

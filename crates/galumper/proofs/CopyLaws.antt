@@ -1,7 +1,7 @@
--- Four elements, each converted or tested.
+-- Four elements, each tested.
 use mathlib.Core.Path.{◌≡◌, sym, ap, ◌∙◌}
 use mathlib.Core.Bool.{Bool, ◌&&◌, and-true}
-use mathlib.Core.List.{List, [], ◌∷◌, map}
+use mathlib.Core.List.{List, [], ◌∷◌}
 use native.Mathlib.Omega.{arith}
 use lib.ListN.{length, get_or, drop_of_length-le}
 use lib.Seq.{drop-cons}
@@ -18,10 +18,6 @@ module _ {A : Type 0} (l : List A) (z : A) (e : length l ≡ 4) where
       ∙ ap (λ (t : List A). get_or l 2 z ∷ t)
       (drop-cons l 3 z (omega arith)
       ∙ ap (λ (t : List A). get_or l 3 z ∷ t) (drop_of_length-le l {i = 4} (omega arith)))))
-
-  pub four : {B : Type 0} (f : A → B) {a b c d : B} → a ≡ f (get_or l 0 z) → b ≡ f (get_or l 1 z) → c ≡ f (get_or l 2 z) → d ≡ f (get_or l 3 z)
-      → (a ∷ b ∷ c ∷ d ∷ []) ≡ map f l
-  four f p q r s = (λ i. p i ∷ q i ∷ r i ∷ s i ∷ []) ∙ sym (ap (map f) the-four)
 
   pub all-four : (f : A → Bool) {a b c d : Bool} → a ≡ f (get_or l 0 z) → b ≡ f (get_or l 1 z) → c ≡ f (get_or l 2 z) → d ≡ f (get_or l 3 z)
       → (a && (b && (c && d))) ≡ all_of f l

@@ -3,17 +3,12 @@
 use Rattle.std.specs.Prelude.{Bool, not, List, map, ℕ, eqb, ℤ, Float, length}
 use Rattle.seconds.specs.Seconds.{zero_seconds}
 use Rattle.buffer_state.specs.declared.Accepted.{Accepted}
-use Rattle.buffer_state.specs.declared.Accepted.TheVariants as Accepted
 use Rattle.buffer_state.specs.declared.Answer.{Answer}
-use Rattle.buffer_state.specs.declared.Answer.TheVariants as Answer
 use Rattle.buffer_state.specs.declared.Changed.{Changed}
 use Rattle.buffer_state.specs.declared.Count.{Count}
-use Rattle.buffer_state.specs.declared.Count.TheVariants as Count
 use Rattle.buffer_state.specs.declared.Head.{Head}
 use Rattle.buffer_state.specs.declared.Read.{Read}
-use Rattle.buffer_state.specs.declared.Read.TheVariants as Read
 use Rattle.buffer_state.specs.declared.Sought.{Sought}
-use Rattle.buffer_state.specs.declared.Sought.TheVariants as Sought
 use Rattle.buffer_state.specs.declared.Stop.{Stop}
 use Rattle.buffer_state.specs.Answers.{append_result, remove_result, batch_result}
 use Rattle.buffer_state.specs.Append.{Outcome}

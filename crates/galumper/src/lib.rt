@@ -1,8 +1,12 @@
 // The calls for programs in C, C++ and Rust: the head laid flat as numbers, by value, and the arrays as the program lends them.
 // include/galumper.h declares the same for C, and a buffer of a head and its arrays with calls that take a pointer to it.
+// Here they are functions for other crates; `galumper_c` exports each under its name, with the same promises.
 // Any bits may be handed in. A flag is a number and no bool, since a bool that holds neither 0 nor 1 must not even be loaded. A double
 // of the head is its 64 bits, and each number is as wide as its place, so that no byte of a head is padding: what is promised of a head is
 // promised of every bit of it, a NaN's too. A head with a number that is none of its kind is not well-formed.
+
+#![tactic(auto)]
+
 ghost use Rattle.std.specs.Prelude.{◌≡◌, cond, map, ◌≤◌, length};
 ghost use Rattle.buffer_state.specs.Answers.{times_created, tags_created, times_after, tags_after, list_after, outcome_of, abort_answer, mode_answer, offset_answer, window_start_answer, window_end_answer, settings_answer, create_answer, range_count, ranges_after, track_ranges_result, common_ranges_result, taken_count, walked_result, seek_result};
 ghost use Rattle.buffer_state.specs.Layout.{buffer_of};
@@ -32,7 +36,7 @@ use segments::SegmentTrack;
 // ---- what C sees
 
 #[repr(C)]
-#[derive(Drop)]
+#[derive(Clone, Copy)]
 pub struct FlatOffered {
     pub track: u32,
     pub flagged: u8,
@@ -43,7 +47,7 @@ pub struct FlatOffered {
 
 // The track of a segment that is read: its ID there, the track number that its frames shall carry, its timescale, and its defaults.
 #[repr(C)]
-#[derive(Drop)]
+#[derive(Clone, Copy)]
 pub struct FlatSegmentTrack {
     pub id: u32,
     pub track: u32,
@@ -55,7 +59,7 @@ pub struct FlatSegmentTrack {
 
 // A reader of a segment in lumps. Its phase is 0 to 3: in a header, in a body that is passed over, in one that is kept, stuck.
 #[repr(C)]
-#[derive(Drop)]
+#[derive(Clone, Copy)]
 pub struct FlatLumpReader {
     pub head: [u8; 16],
     pub left: u64,
@@ -66,7 +70,7 @@ pub struct FlatLumpReader {
 }
 
 #[repr(C)]
-#[derive(Drop)]
+#[derive(Clone, Copy)]
 pub struct FlatTrack {
     pub kind: u8,
     pub known: u8,
@@ -77,7 +81,7 @@ pub struct FlatTrack {
 }
 
 #[repr(C)]
-#[derive(Drop)]
+#[derive(Clone, Copy)]
 pub struct FlatGroup {
     pub begun: u32,
     pub number: u32,
@@ -87,14 +91,14 @@ pub struct FlatGroup {
 
 // A setting: the bits of the double as it was given, beside its microseconds.
 #[repr(C)]
-#[derive(Drop)]
+#[derive(Clone, Copy)]
 pub struct FlatSetting {
     pub bits: u64,
     pub micros: i64,
 }
 
 #[repr(C)]
-#[derive(Drop)]
+#[derive(Clone, Copy)]
 pub struct FlatSettings {
     pub offset: FlatSetting,
     pub start: FlatSetting,
@@ -105,7 +109,7 @@ pub struct FlatSettings {
 
 // All of a state but its frames.
 #[repr(C)]
-#[derive(Drop)]
+#[derive(Clone, Copy)]
 pub struct FlatHead {
     pub tracks: [FlatTrack; 4],
     pub ntracks: usize,
@@ -118,7 +122,7 @@ pub struct FlatHead {
 
 // What a call answers: its refusal number (0: done), and how many fate lines, ranges or frames it wrote, or frames that a walk took.
 #[repr(C)]
-#[derive(Drop)]
+#[derive(Clone, Copy)]
 pub struct FlatAnswer {
     pub refusal: u32,
     pub count: usize,
@@ -126,7 +130,7 @@ pub struct FlatAnswer {
 
 // What a call that can change the state hands back: the head after it, and its answer.
 #[repr(C)]
-#[derive(Drop)]
+#[derive(Clone, Copy)]
 pub struct Answered {
     pub head: FlatHead,
     pub answer: FlatAnswer,
@@ -135,7 +139,7 @@ pub struct Answered {
 // What a batch answers: the refusal number of the whole call (0: done), that of the frame which stopped it (0: none), how many frames were
 // accepted, and how many fate lines it wrote.
 #[repr(C)]
-#[derive(Drop)]
+#[derive(Clone, Copy)]
 pub struct FlatBatch {
     pub refusal: u32,
     pub stop: u32,
@@ -144,7 +148,7 @@ pub struct FlatBatch {
 }
 
 #[repr(C)]
-#[derive(Drop)]
+#[derive(Clone, Copy)]
 pub struct FlatBatched {
     pub head: FlatHead,
     pub answer: FlatBatch,
@@ -152,7 +156,7 @@ pub struct FlatBatched {
 
 // What a lump answers, with the reader after it.
 #[repr(C)]
-#[derive(Drop)]
+#[derive(Clone, Copy)]
 pub struct FlatLumped {
     pub reader: FlatLumpReader,
     pub answer: FlatAnswer,
@@ -161,7 +165,7 @@ pub struct FlatLumped {
 // What a seek answers: its refusal number (0: done), the number of the frame that covers the instant, that of the random access point from
 // which to decode, and how many frames there are to decode.
 #[repr(C)]
-#[derive(Drop)]
+#[derive(Clone, Copy)]
 pub struct FlatStart {
     pub refusal: u32,
     pub target: u32,
@@ -171,7 +175,7 @@ pub struct FlatStart {
 
 // Where the bytes to feed start in what was lent, and how many they are.
 #[repr(C)]
-#[derive(Drop)]
+#[derive(Clone, Copy)]
 pub struct FlatPart {
     pub start: usize,
     pub length: usize,
@@ -179,7 +183,7 @@ pub struct FlatPart {
 
 // What reading the settings answers: the doubles as they were given.
 #[repr(C)]
-#[derive(Drop)]
+#[derive(Clone, Copy)]
 pub struct Reading {
     pub refusal: u32,
     pub bounded: u8,
@@ -742,16 +746,14 @@ fn reading_out(answer: Read) -> Reading
 // ---- what ties a header to this library
 
 // The layout of what is handed over here, and of the functions that take it: a change of either is another number.
-#[unsafe(no_mangle)]
-pub extern "C" fn galumper_abi() -> u32
+pub fn galumper_abi() -> u32
     ensures { result ≡ abi }
 {
     8
 }
 
 // The bytes of a buffer: a head and its arrays.
-#[unsafe(no_mangle)]
-pub extern "C" fn galumper_size() -> usize
+pub fn galumper_size() -> usize
     ensures { result ≡ buffer_size }
 {
     37064
@@ -760,8 +762,7 @@ pub extern "C" fn galumper_size() -> usize
 // ---- the calls
 
 // A buffer from a lent list of kinds: it clears the arrays. Refused, it touches nothing, and its head is of zeros.
-#[unsafe(no_mangle)]
-pub extern "C" fn galumper_lent_create(kinds: &[u8], times: &mut Times, tags: &mut Tags) -> Answered
+pub fn galumper_lent_create(kinds: &[u8], times: &mut Times, tags: &mut Tags) -> Answered
     ensures answer { result ≡ created_out (create_answer kinds.now) }
     ensures times { times.new ≡ times_created (create kinds.now) times.old }
     ensures tags { tags.new ≡ tags_created (create kinds.now) tags.old }
@@ -773,8 +774,7 @@ pub extern "C" fn galumper_lent_create(kinds: &[u8], times: &mut Times, tags: &m
 }
 
 // Append one frame.
-#[unsafe(no_mangle)]
-pub extern "C" fn galumper_lent_append(
+pub fn galumper_lent_append(
     c: FlatHead,
     f: FlatOffered,
     times: &mut Times,
@@ -794,8 +794,7 @@ pub extern "C" fn galumper_lent_append(
 }
 
 // Append up to 64 frames, as rows of the numbers that reading a segment lists.
-#[unsafe(no_mangle)]
-pub extern "C" fn galumper_lent_append_batch(
+pub fn galumper_lent_append_batch(
     c: FlatHead,
     frames: &[[i64; 6]],
     times: &mut Times,
@@ -815,8 +814,7 @@ pub extern "C" fn galumper_lent_append_batch(
 }
 
 // Remove a stretch of time.
-#[unsafe(no_mangle)]
-pub extern "C" fn galumper_lent_remove(
+pub fn galumper_lent_remove(
     c: FlatHead,
     start: f64,
     end: f64,
@@ -836,8 +834,7 @@ pub extern "C" fn galumper_lent_remove(
     counted_out(c, answer, k)
 }
 
-#[unsafe(no_mangle)]
-pub extern "C" fn galumper_lent_abort(c: FlatHead, times: &Times, tags: &Tags) -> Answered
+pub fn galumper_lent_abort(c: FlatHead, times: &Times, tags: &Tags) -> Answered
     ensures { result ≡ handed_back c (abort_answer (head_in c) times.now tags.now) }
 {
     let h = head_in(c);
@@ -858,27 +855,19 @@ fn with_mode(c: FlatHead, times: &Times, tags: &Tags, mode: Mode) -> Answered
 }
 
 // A call for each mode, so that no other can be passed.
-#[unsafe(no_mangle)]
-pub extern "C" fn galumper_lent_set_segments(c: FlatHead, times: &Times, tags: &Tags) -> Answered
+pub fn galumper_lent_set_segments(c: FlatHead, times: &Times, tags: &Tags) -> Answered
     ensures { result ≡ handed_back c (mode_answer Segments (head_in c) times.now tags.now) }
 {
     with_mode(c, times, tags, Mode::Segments)
 }
 
-#[unsafe(no_mangle)]
-pub extern "C" fn galumper_lent_set_sequence(c: FlatHead, times: &Times, tags: &Tags) -> Answered
+pub fn galumper_lent_set_sequence(c: FlatHead, times: &Times, tags: &Tags) -> Answered
     ensures { result ≡ handed_back c (mode_answer Sequence (head_in c) times.now tags.now) }
 {
     with_mode(c, times, tags, Mode::Sequence)
 }
 
-#[unsafe(no_mangle)]
-pub extern "C" fn galumper_lent_set_offset(
-    c: FlatHead,
-    times: &Times,
-    tags: &Tags,
-    seconds: f64,
-) -> Answered
+pub fn galumper_lent_set_offset(c: FlatHead, times: &Times, tags: &Tags, seconds: f64) -> Answered
     ensures { result ≡ handed_back c (offset_answer seconds (head_in c) times.now tags.now) }
 {
     let h = head_in(c);
@@ -888,8 +877,7 @@ pub extern "C" fn galumper_lent_set_offset(
     changed_out(c, answer, k)
 }
 
-#[unsafe(no_mangle)]
-pub extern "C" fn galumper_lent_set_window_start(
+pub fn galumper_lent_set_window_start(
     c: FlatHead,
     times: &Times,
     tags: &Tags,
@@ -904,8 +892,7 @@ pub extern "C" fn galumper_lent_set_window_start(
     changed_out(c, answer, k)
 }
 
-#[unsafe(no_mangle)]
-pub extern "C" fn galumper_lent_set_window_end(
+pub fn galumper_lent_set_window_end(
     c: FlatHead,
     times: &Times,
     tags: &Tags,
@@ -920,8 +907,7 @@ pub extern "C" fn galumper_lent_set_window_end(
     changed_out(c, answer, k)
 }
 
-#[unsafe(no_mangle)]
-pub extern "C" fn galumper_lent_read_settings(c: FlatHead, times: &Times, tags: &Tags) -> Reading
+pub fn galumper_lent_read_settings(c: FlatHead, times: &Times, tags: &Tags) -> Reading
     ensures { result ≡ reading_out (settings_answer (head_in c) times.now tags.now) }
 {
     let h = head_in(c);
@@ -929,8 +915,7 @@ pub extern "C" fn galumper_lent_read_settings(c: FlatHead, times: &Times, tags: 
 }
 
 // A track's ranges.
-#[unsafe(no_mangle)]
-pub extern "C" fn galumper_lent_track_ranges(
+pub fn galumper_lent_track_ranges(
     c: FlatHead,
     times: &Times,
     tags: &Tags,
@@ -945,8 +930,7 @@ pub extern "C" fn galumper_lent_track_ranges(
 }
 
 // The ranges common to all tracks.
-#[unsafe(no_mangle)]
-pub extern "C" fn galumper_lent_common_ranges(
+pub fn galumper_lent_common_ranges(
     c: FlatHead,
     times: &Times,
     tags: &Tags,
@@ -960,8 +944,7 @@ pub extern "C" fn galumper_lent_common_ranges(
 }
 
 // How many frames the walk of a track's ranges takes where so many places are lent, also where these are too few for the ranges.
-#[unsafe(no_mangle)]
-pub extern "C" fn galumper_lent_walked(
+pub fn galumper_lent_walked(
     c: FlatHead,
     times: &Times,
     tags: &Tags,
@@ -975,8 +958,7 @@ pub extern "C" fn galumper_lent_walked(
 }
 
 // Where to start decoding for a track and an instant in microseconds. The frames to decode are never more than the track has.
-#[unsafe(no_mangle)]
-pub extern "C" fn galumper_lent_seek(
+pub fn galumper_lent_seek(
     c: FlatHead,
     times: &Times,
     tags: &Tags,
@@ -992,8 +974,7 @@ pub extern "C" fn galumper_lent_seek(
 
 // What to feed a decoder, by where it stands: in the initialization bytes, all of them, or in the segment, the part from a place up to
 // another. An exported function can hand back no slice, so it tells the part, and what is lent is the caller's to point into.
-#[unsafe(no_mangle)]
-pub extern "C" fn galumper_lent_feed(
+pub fn galumper_lent_feed(
     initialization: &[u8],
     segment: &[u8],
     whole: u32,
@@ -1013,8 +994,7 @@ pub extern "C" fn galumper_lent_feed(
 
 // The frames of one track in a segment, each with its size, as a row of numbers: track, presentation and decode timestamp, duration,
 // 1 if flagged, size. It takes no buffer.
-#[unsafe(no_mangle)]
-pub extern "C" fn galumper_lent_list_segment(
+pub fn galumper_lent_list_segment(
     of: FlatSegmentTrack,
     segment: &[u8],
     list: &mut [[i64; 6]],
@@ -1027,20 +1007,14 @@ pub extern "C" fn galumper_lent_list_segment(
 }
 
 // A reader to which no byte has come.
-#[unsafe(no_mangle)]
-pub extern "C" fn galumper_fresh_reader() -> FlatLumpReader
+pub fn galumper_fresh_reader() -> FlatLumpReader
     ensures { result ≡ reader_out (reader_of fresh) }
 {
     reader_out(lumps::fresh_reader())
 }
 
 // A lump of a segment after which more comes.
-#[unsafe(no_mangle)]
-pub extern "C" fn galumper_lent_take_lump(
-    c: FlatLumpReader,
-    buffer: &mut [u8],
-    lump: &[u8],
-) -> FlatLumped
+pub fn galumper_lent_take_lump(c: FlatLumpReader, buffer: &mut [u8], lump: &[u8]) -> FlatLumped
     ensures answer { result ≡ lump_out c (more_result (reader_in c) buffer.old lump.now) }
     ensures buffer { buffer.new ≡ buffer_after (more_result (reader_in c) buffer.old lump.now) buffer.old }
 {
@@ -1052,8 +1026,7 @@ pub extern "C" fn galumper_lent_take_lump(
 }
 
 // The last lump of a segment.
-#[unsafe(no_mangle)]
-pub extern "C" fn galumper_lent_take_last(
+pub fn galumper_lent_take_last(
     c: FlatLumpReader,
     of: FlatSegmentTrack,
     buffer: &[u8],

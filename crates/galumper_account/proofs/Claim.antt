@@ -5,22 +5,19 @@ use mathlib.Core.Path.{◌≡◌, refl, sym, ap, subst, ◌∙◌}
 use mathlib.Core.List.{List, [], ◌∷◌, map}
 use Prim.Native.Nat.{ℕ}
 use contract.Lifetimes.{Lfts}
-use denote.Ref.{Bor}
+use denote.Ref.{Bor, MutBor}
 use lib.IntN.{ℤ}
 use lib.Ieee.{Float}
 use lib.ListN.{length}
 use Rattle.buffer_state.specs.declared.Accepted.{Accepted}
-use Rattle.buffer_state.specs.declared.Accepted.TheVariants as Accepted
 use Rattle.buffer_state.specs.declared.Answer as Code
 use Rattle.buffer_state.specs.declared.Answer.TheVariants as Said
 use Rattle.buffer_state.specs.declared.Batched.{Batched}
 use Rattle.buffer_state.specs.declared.Changed.{Changed}
 use Rattle.buffer_state.specs.declared.Count.{Count}
-use Rattle.buffer_state.specs.declared.Count.TheVariants as Count
 use Rattle.buffer_state.specs.declared.Counted.{Counted}
 use Rattle.buffer_state.specs.declared.Mode.TheVariants.{Segments, Sequence}
 use Rattle.buffer_state.specs.declared.Read.{Read}
-use Rattle.buffer_state.specs.declared.Read.TheVariants as Read
 use Rattle.buffer_state.specs.declared.Sought.{Sought}
 use Rattle.buffer_state.specs.declared.Sought.TheVariants.{Found, Refused}
 use Rattle.buffer_state.specs.Answers.{changed, zero_head, create_answer, times_created, tags_created, times_after, tags_after, list_after, outcome_of, abort_answer, mode_answer, offset_answer, window_start_answer, window_end_answer, settings_answer, range_count, ranges_after, track_ranges_result, common_ranges_result, taken_count, walked_result, seek_result}
@@ -28,14 +25,14 @@ use Rattle.buffer_state.specs.Buffer.{Buffer, fresh}
 use Rattle.buffer_state.specs.Layout.{buffer_of}
 use Rattle.buffer_state.specs.Lent.{Lent, state_at}
 use Rattle.buffer_state.specs.Refusals.{CallResult, done}
-use Rattle.buffer_state.specs.Run.{Answer, Entry, stored_on}
+use Rattle.buffer_state.specs.Run.{Entry, stored_on}
 use Rattle.buffer_state.specs.Seek.{Start}
 use Rattle.buffer_state.specs.Settings.{create}
 use Rattle.seek.specs.Places.{Within}
 use Rattle.seek.proofs.CallLaws.{seek-within}
 use Rattle.account.specs.Made.{Listed, Joined, lines_of, joined_of, ranges_of, change_of, reading_of, walked_of, sought_of, result_of, entries}
 use Rattle.account.specs.History as Account
-use Rattle.account.proofs.Claim.{every-history, lend, two, three, four}
+use Rattle.account.proofs.Claim.{every-history, lend, lend_mut, two, three, four}
 use Rattle.galumper.specs.declared.Answered.{Answered}
 use Rattle.galumper.specs.declared.FlatAnswer.{FlatAnswer}
 use Rattle.galumper.specs.declared.FlatBatched.{FlatBatched}
@@ -299,12 +296,12 @@ onward c (append f l ∷ asks) =
     let x = append_flat (length l) f c.head c.times c.tags in
     let r = outcome_out c.head x in
     let d : Held = record { head = r.head; times = times_after x c.times; tags = tags_after x c.tags } in
-    first {d = d} (λ ms t k. by_append f (lend c.times) (lend c.tags) (lend l) r d.times d.tags (list_after x l) three (refl, (refl, (refl, refl))) k) (onward d asks)
+    first {d = d} (λ ms t k. by_append f (lend_mut c.times) (lend_mut c.tags) (lend_mut l) r d.times d.tags (list_after x l) three (refl, (refl, (refl, refl))) k) (onward d asks)
 onward c (remove start end l ∷ asks) =
     let x = remove_flat (length l) start end c.head c.times c.tags in
     let r = outcome_out c.head x in
     let d : Held = record { head = r.head; times = times_after x c.times; tags = tags_after x c.tags } in
-    first {d = d} (λ ms t k. by_remove start end (lend c.times) (lend c.tags) (lend l) r d.times d.tags (list_after x l) three (refl, (refl, (refl, refl))) k) (onward d asks)
+    first {d = d} (λ ms t k. by_remove start end (lend_mut c.times) (lend_mut c.tags) (lend_mut l) r d.times d.tags (list_after x l) three (refl, (refl, (refl, refl))) k) (onward d asks)
 onward c (abort ∷ asks) =
     let r = handed_back c.head (abort_answer (head_in c.head) c.times c.tags) in
     first {d = under c r} (λ ms t k. by_abort (lend c.times) (lend c.tags) r two refl k) (onward (under c r) asks)
@@ -328,16 +325,16 @@ onward c (read_settings ∷ asks) =
     first {d = c} (λ ms t k. by_reading (lend c.times) (lend c.tags) r two refl k) (onward c asks)
 onward c (track_ranges track l ∷ asks) =
     let x = track_ranges_result (length l) track (head_in c.head) c.times c.tags in
-    first {d = c} (λ ms t k. by_track_ranges track (lend c.times) (lend c.tags) (lend l) (report_out (range_count x)) (ranges_after x l) three (refl, refl) k) (onward c asks)
+    first {d = c} (λ ms t k. by_track_ranges track (lend c.times) (lend c.tags) (lend_mut l) (report_out (range_count x)) (ranges_after x l) three (refl, refl) k) (onward c asks)
 onward c (common_ranges l ∷ asks) =
     let x = common_ranges_result (length l) (head_in c.head) c.times c.tags in
-    first {d = c} (λ ms t k. by_common_ranges (lend c.times) (lend c.tags) (lend l) (report_out (range_count x)) (ranges_after x l) three (refl, refl) k) (onward c asks)
+    first {d = c} (λ ms t k. by_common_ranges (lend c.times) (lend c.tags) (lend_mut l) (report_out (range_count x)) (ranges_after x l) three (refl, refl) k) (onward c asks)
 onward c (batch rows l ∷ asks) =
     let x = batch_flat (length l) rows c.head c.times c.tags in
     let o = outcome_of x in
     let r = batch_out c.head x in
     let d : Held = record { head = r.head; times = times_after o c.times; tags = tags_after o c.tags } in
-    first {d = d} (λ ms t k. by_batch (lend rows) (lend c.times) (lend c.tags) (lend l) r d.times d.tags (list_after o l) four (refl, (refl, (refl, refl))) k) (onward d asks)
+    first {d = d} (λ ms t k. by_batch (lend rows) (lend_mut c.times) (lend_mut c.tags) (lend_mut l) r d.times d.tags (list_after o l) four (refl, (refl, (refl, refl))) k) (onward d asks)
 onward c (walked track room ∷ asks) =
     let r = report_out (taken_count (walked_result room track (head_in c.head) c.times c.tags)) in
     first {d = c} (λ ms t k. by_walk track room (lend c.times) (lend c.tags) r two refl k) (onward c asks)
@@ -357,7 +354,7 @@ some-exported-history kinds ts gs asks made =
       told = o.told;
       same = o.same;
       last = o.last;
-      history = from (lend kinds) (lend ts) (lend gs) r (times_created (create kinds) ts) (tags_created (create kinds) gs) three (refl, (refl, refl))
+      history = from (lend kinds) (lend_mut ts) (lend_mut gs) r (times_created (create kinds) ts) (tags_created (create kinds) gs) three (refl, (refl, refl))
           (ap (λ (x : CallResult Buffer). (created_out (changed zero_head x)).answer.refusal) made) o.steps;
     }
 
@@ -365,16 +362,17 @@ some-exported-history kinds ts gs asks made =
 
 -- no exported call asks anything of its caller
 pub exported-free : (κs : Lfts 2) (λs : Lfts 3) (μs : Lfts 4) (c : FlatHead) (f : FlatOffered) (x y : Float) (track room : ℕ) (instant : ℤ) (kinds : Bor (List ℕ))
-    (times : Bor (List (List ℤ))) (tags : Bor (List (List ℕ))) (fates : Bor (List (List ℕ))) (list rows : Bor (List (List ℤ)))
-    → Create.Asked λs (kinds, (times, (tags, tt))) × Append.Asked λs (c, (f, (times, (tags, (fates, tt)))))
-    × Remove.Asked λs (c, (x, (y, (times, (tags, (fates, tt)))))) × Abort.Asked κs (c, (times, (tags, tt)))
+    (times : Bor (List (List ℤ))) (tags : Bor (List (List ℕ))) (rows : Bor (List (List ℤ)))
+    (timesMut : MutBor (List (List ℤ))) (tagsMut fates : MutBor (List (List ℕ))) (list : MutBor (List (List ℤ)))
+    → Create.Asked λs (kinds, (timesMut, (tagsMut, tt))) × Append.Asked λs (c, (f, (timesMut, (tagsMut, (fates, tt)))))
+    × Remove.Asked λs (c, (x, (y, (timesMut, (tagsMut, (fates, tt)))))) × Abort.Asked κs (c, (times, (tags, tt)))
     × SetSegments.Asked κs (c, (times, (tags, tt))) × SetSequence.Asked κs (c, (times, (tags, tt)))
     × SetOffset.Asked κs (c, (times, (tags, (x, tt)))) × SetWindowStart.Asked κs (c, (times, (tags, (x, tt))))
     × SetWindowEnd.Asked κs (c, (times, (tags, (x, tt)))) × ReadSettings.Asked κs (c, (times, (tags, tt)))
     × TrackRanges.Asked λs (c, (times, (tags, (track, (list, tt))))) × CommonRanges.Asked λs (c, (times, (tags, (list, tt))))
-    × Batch.Asked μs (c, (rows, (times, (tags, (fates, tt))))) × Walked.Asked κs (c, (times, (tags, (track, (room, tt)))))
+    × Batch.Asked μs (c, (rows, (timesMut, (tagsMut, (fates, tt))))) × Walked.Asked κs (c, (times, (tags, (track, (room, tt)))))
     × Seek.Asked κs (c, (times, (tags, (track, (instant, tt)))))
-exported-free κs λs μs c f x y track room instant kinds times tags fates list rows = (tt, tt, tt, tt, tt, tt, tt, tt, tt, tt, tt, tt, tt, tt, tt)
+exported-free κs λs μs c f x y track room instant kinds times tags rows timesMut tagsMut fates list = (tt, tt, tt, tt, tt, tt, tt, tt, tt, tt, tt, tt, tt, tt, tt)
 
 -- the running code meets the contracts of which a history is made
 pub exported-code-meets : {M : Type 1}

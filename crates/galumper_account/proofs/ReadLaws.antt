@@ -10,21 +10,16 @@ use lib.ListN.{length}
 use Rattle.laws.proofs.BoolLaws.{by-test}
 use Rattle.seconds.proofs.NumberLaws.{IsNumber, zero_number, quotient-number}
 use Rattle.buffer_state.specs.declared.Accepted.{Accepted}
-use Rattle.buffer_state.specs.declared.Accepted.TheVariants as Accepted
 use Rattle.buffer_state.specs.declared.Answer.{Answer}
-use Rattle.buffer_state.specs.declared.Answer.TheVariants as Answer
 use Rattle.buffer_state.specs.declared.Batched.{Batched}
 use Rattle.buffer_state.specs.declared.Changed.{Changed}
 use Rattle.buffer_state.specs.declared.Count.{Count}
-use Rattle.buffer_state.specs.declared.Count.TheVariants as Count
 use Rattle.buffer_state.specs.declared.Counted.{Counted}
 use Rattle.buffer_state.specs.declared.Head.{Head}
 use Rattle.buffer_state.specs.declared.Read.{Read}
-use Rattle.buffer_state.specs.declared.Read.TheVariants as Read
 use Rattle.buffer_state.specs.declared.Refusal.{Refusal}
 use Rattle.buffer_state.specs.declared.Refusal.TheVariants.{IllFormed, ShortFates, NoTrack, FrameLimits, Seconds, Order, ResultLimits, Full, LastNumber, ShortList, Kinds, Malformed, LentSize, LargeFragment, NoStart}
 use Rattle.buffer_state.specs.declared.Sought.{Sought}
-use Rattle.buffer_state.specs.declared.Sought.TheVariants as Sought
 use Rattle.buffer_state.specs.declared.Stop.{Stop}
 use Rattle.buffer_state.specs.declared.Stop.TheVariants.{Nothing, By}
 use Rattle.buffer_state.specs.Answers.{changed, counted, zero_head, batched, outcome_of, sought}

@@ -2,7 +2,7 @@
 -- demand 3 about every such history.
 use Rattle.std.specs.Prelude.{◌≡◌, List, [], ◌∷◌, map, ℕ, T, ℤ, Float}
 use contract.Lifetimes.{Lfts}
-use denote.Ref.{MutBor, at_last}
+use denote.Ref.{Bor, MutBor, at_last}
 use Rattle.std.specs.Float.{binary64}
 use Rattle.std.specs.Float.Ieee.{fits}
 use Rattle.buffer_state.specs.Buffer.{Buffer, fresh}
@@ -11,6 +11,7 @@ use Rattle.buffer_state.specs.Refusals.{CallResult, refused, done, refusal_numbe
 use Rattle.buffer_state.specs.Run.{Answer, ok, fates, settings, ranges, accepted, taken, decoding, Entry, run, last_of}
 use Rattle.account.specs.Made.{calls}
 use Rattle.account.specs.History as Account
+use Rattle.account.specs.History.{over}
 use Rattle.galumper.specs.declared.Answered.{Answered}
 use Rattle.galumper.specs.declared.FlatAnswer.{FlatAnswer}
 use Rattle.galumper.specs.declared.FlatBatched.{FlatBatched}
@@ -69,66 +70,66 @@ pub data From : Held → List Told → Held → Type 0 where
       (c.head, (start, (end, (at_last times ts, (at_last tags gs, (at_last lent after, tt))))))
       → From (record { head = r.head; times = ts; tags = gs }) ms t
       → From c (record { ask = remove start end lent.now; got = record { answer = r.answer; after = after } } ∷ ms) t
-  by_abort : {c t : Held} {ms : List Told} (times : MutBor (List (List ℤ))) (tags : MutBor (List (List ℕ))) (r : Answered) (κs : Lfts 2)
-      → Abort.Learnt κs (c.head, (at_last times c.times, (at_last tags c.tags, tt))) r (c.head, (at_last times c.times, (at_last tags c.tags, tt)))
+  by_abort : {c t : Held} {ms : List Told} (times : Bor (List (List ℤ))) (tags : Bor (List (List ℕ))) (r : Answered) (κs : Lfts 2)
+      → Abort.Learnt κs (c.head, (over times c.times, (over tags c.tags, tt))) r (c.head, (over times c.times, (over tags c.tags, tt)))
       → From (record { head = r.head; times = c.times; tags = c.tags }) ms t
       → From c (record { ask = abort; got = r.answer } ∷ ms) t
-  by_segments : {c t : Held} {ms : List Told} (times : MutBor (List (List ℤ))) (tags : MutBor (List (List ℕ))) (r : Answered) (κs : Lfts 2)
-      → SetSegments.Learnt κs (c.head, (at_last times c.times, (at_last tags c.tags, tt))) r (c.head, (at_last times c.times, (at_last tags c.tags, tt)))
+  by_segments : {c t : Held} {ms : List Told} (times : Bor (List (List ℤ))) (tags : Bor (List (List ℕ))) (r : Answered) (κs : Lfts 2)
+      → SetSegments.Learnt κs (c.head, (over times c.times, (over tags c.tags, tt))) r (c.head, (over times c.times, (over tags c.tags, tt)))
       → From (record { head = r.head; times = c.times; tags = c.tags }) ms t
       → From c (record { ask = set_segments; got = r.answer } ∷ ms) t
-  by_sequence : {c t : Held} {ms : List Told} (times : MutBor (List (List ℤ))) (tags : MutBor (List (List ℕ))) (r : Answered) (κs : Lfts 2)
-      → SetSequence.Learnt κs (c.head, (at_last times c.times, (at_last tags c.tags, tt))) r (c.head, (at_last times c.times, (at_last tags c.tags, tt)))
+  by_sequence : {c t : Held} {ms : List Told} (times : Bor (List (List ℤ))) (tags : Bor (List (List ℕ))) (r : Answered) (κs : Lfts 2)
+      → SetSequence.Learnt κs (c.head, (over times c.times, (over tags c.tags, tt))) r (c.head, (over times c.times, (over tags c.tags, tt)))
       → From (record { head = r.head; times = c.times; tags = c.tags }) ms t
       → From c (record { ask = set_sequence; got = r.answer } ∷ ms) t
-  by_offset : {c t : Held} {ms : List Told} (x : Float) (f : T (fits binary64 x)) (times : MutBor (List (List ℤ))) (tags : MutBor (List (List ℕ))) (r : Answered) (κs : Lfts 2)
-      → SetOffset.Learnt κs (c.head, (at_last times c.times, (at_last tags c.tags, (x, tt)))) r (c.head, (at_last times c.times, (at_last tags c.tags, (x, tt))))
+  by_offset : {c t : Held} {ms : List Told} (x : Float) (f : T (fits binary64 x)) (times : Bor (List (List ℤ))) (tags : Bor (List (List ℕ))) (r : Answered) (κs : Lfts 2)
+      → SetOffset.Learnt κs (c.head, (over times c.times, (over tags c.tags, (x, tt)))) r (c.head, (over times c.times, (over tags c.tags, (x, tt))))
       → From (record { head = r.head; times = c.times; tags = c.tags }) ms t
       → From c (record { ask = set_offset x f; got = r.answer } ∷ ms) t
-  by_window_start : {c t : Held} {ms : List Told} (x : Float) (f : T (fits binary64 x)) (times : MutBor (List (List ℤ))) (tags : MutBor (List (List ℕ))) (r : Answered) (κs : Lfts 2)
-      → SetWindowStart.Learnt κs (c.head, (at_last times c.times, (at_last tags c.tags, (x, tt)))) r (c.head, (at_last times c.times, (at_last tags c.tags, (x, tt))))
+  by_window_start : {c t : Held} {ms : List Told} (x : Float) (f : T (fits binary64 x)) (times : Bor (List (List ℤ))) (tags : Bor (List (List ℕ))) (r : Answered) (κs : Lfts 2)
+      → SetWindowStart.Learnt κs (c.head, (over times c.times, (over tags c.tags, (x, tt)))) r (c.head, (over times c.times, (over tags c.tags, (x, tt))))
       → From (record { head = r.head; times = c.times; tags = c.tags }) ms t
       → From c (record { ask = set_window_start x f; got = r.answer } ∷ ms) t
-  by_window_end : {c t : Held} {ms : List Told} (x : Float) (f : T (fits binary64 x)) (times : MutBor (List (List ℤ))) (tags : MutBor (List (List ℕ))) (r : Answered) (κs : Lfts 2)
-      → SetWindowEnd.Learnt κs (c.head, (at_last times c.times, (at_last tags c.tags, (x, tt)))) r (c.head, (at_last times c.times, (at_last tags c.tags, (x, tt))))
+  by_window_end : {c t : Held} {ms : List Told} (x : Float) (f : T (fits binary64 x)) (times : Bor (List (List ℤ))) (tags : Bor (List (List ℕ))) (r : Answered) (κs : Lfts 2)
+      → SetWindowEnd.Learnt κs (c.head, (over times c.times, (over tags c.tags, (x, tt)))) r (c.head, (over times c.times, (over tags c.tags, (x, tt))))
       → From (record { head = r.head; times = c.times; tags = c.tags }) ms t
       → From c (record { ask = set_window_end x f; got = r.answer } ∷ ms) t
-  by_reading : {c t : Held} {ms : List Told} (times : MutBor (List (List ℤ))) (tags : MutBor (List (List ℕ))) (r : Reading) (κs : Lfts 2)
-      → ReadSettings.Learnt κs (c.head, (at_last times c.times, (at_last tags c.tags, tt))) r (c.head, (at_last times c.times, (at_last tags c.tags, tt)))
+  by_reading : {c t : Held} {ms : List Told} (times : Bor (List (List ℤ))) (tags : Bor (List (List ℕ))) (r : Reading) (κs : Lfts 2)
+      → ReadSettings.Learnt κs (c.head, (over times c.times, (over tags c.tags, tt))) r (c.head, (over times c.times, (over tags c.tags, tt)))
       → From c ms t
       → From c (record { ask = read_settings; got = r } ∷ ms) t
-  by_track_ranges : {c t : Held} {ms : List Told} (track : ℕ) (times : MutBor (List (List ℤ))) (tags : MutBor (List (List ℕ))) (lent : MutBor (List (List ℤ)))
+  by_track_ranges : {c t : Held} {ms : List Told} (track : ℕ) (times : Bor (List (List ℤ))) (tags : Bor (List (List ℕ))) (lent : MutBor (List (List ℤ)))
       (r : FlatAnswer) (after : List (List ℤ)) (κs : Lfts 3)
-      → TrackRanges.Learnt κs (c.head, (at_last times c.times, (at_last tags c.tags, (track, (lent, tt))))) r
-      (c.head, (at_last times c.times, (at_last tags c.tags, (track, (at_last lent after, tt)))))
+      → TrackRanges.Learnt κs (c.head, (over times c.times, (over tags c.tags, (track, (lent, tt))))) r
+      (c.head, (over times c.times, (over tags c.tags, (track, (at_last lent after, tt)))))
       → From c ms t
       → From c (record { ask = track_ranges track lent.now; got = record { answer = r; after = after } } ∷ ms) t
-  by_common_ranges : {c t : Held} {ms : List Told} (times : MutBor (List (List ℤ))) (tags : MutBor (List (List ℕ))) (lent : MutBor (List (List ℤ)))
+  by_common_ranges : {c t : Held} {ms : List Told} (times : Bor (List (List ℤ))) (tags : Bor (List (List ℕ))) (lent : MutBor (List (List ℤ)))
       (r : FlatAnswer) (after : List (List ℤ)) (κs : Lfts 3)
-      → CommonRanges.Learnt κs (c.head, (at_last times c.times, (at_last tags c.tags, (lent, tt)))) r
-      (c.head, (at_last times c.times, (at_last tags c.tags, (at_last lent after, tt))))
+      → CommonRanges.Learnt κs (c.head, (over times c.times, (over tags c.tags, (lent, tt)))) r
+      (c.head, (over times c.times, (over tags c.tags, (at_last lent after, tt))))
       → From c ms t
       → From c (record { ask = common_ranges lent.now; got = record { answer = r; after = after } } ∷ ms) t
-  by_batch : {c t : Held} {ms : List Told} (rows : MutBor (List (List ℤ))) (times : MutBor (List (List ℤ))) (tags lent : MutBor (List (List ℕ)))
+  by_batch : {c t : Held} {ms : List Told} (rows : Bor (List (List ℤ))) (times : MutBor (List (List ℤ))) (tags lent : MutBor (List (List ℕ)))
       (r : FlatBatched) (ts : List (List ℤ)) (gs after : List (List ℕ)) (κs : Lfts 4)
       → Batch.Learnt κs (c.head, (rows, (at_last times c.times, (at_last tags c.tags, (lent, tt))))) r
       (c.head, (rows, (at_last times ts, (at_last tags gs, (at_last lent after, tt)))))
       → From (record { head = r.head; times = ts; tags = gs }) ms t
       → From c (record { ask = batch rows.now lent.now; got = record { answer = r.answer; after = after } } ∷ ms) t
-  by_walk : {c t : Held} {ms : List Told} (track room : ℕ) (times : MutBor (List (List ℤ))) (tags : MutBor (List (List ℕ))) (r : FlatAnswer) (κs : Lfts 2)
-      → Walked.Learnt κs (c.head, (at_last times c.times, (at_last tags c.tags, (track, (room, tt))))) r
-      (c.head, (at_last times c.times, (at_last tags c.tags, (track, (room, tt)))))
+  by_walk : {c t : Held} {ms : List Told} (track room : ℕ) (times : Bor (List (List ℤ))) (tags : Bor (List (List ℕ))) (r : FlatAnswer) (κs : Lfts 2)
+      → Walked.Learnt κs (c.head, (over times c.times, (over tags c.tags, (track, (room, tt))))) r
+      (c.head, (over times c.times, (over tags c.tags, (track, (room, tt)))))
       → From c ms t
       → From c (record { ask = walked track room; got = r } ∷ ms) t
-  by_seek : {c t : Held} {ms : List Told} (track : ℕ) (instant : ℤ) (times : MutBor (List (List ℤ))) (tags : MutBor (List (List ℕ))) (r : FlatStart) (κs : Lfts 2)
-      → Seek.Learnt κs (c.head, (at_last times c.times, (at_last tags c.tags, (track, (instant, tt))))) r
-      (c.head, (at_last times c.times, (at_last tags c.tags, (track, (instant, tt)))))
+  by_seek : {c t : Held} {ms : List Told} (track : ℕ) (instant : ℤ) (times : Bor (List (List ℤ))) (tags : Bor (List (List ℕ))) (r : FlatStart) (κs : Lfts 2)
+      → Seek.Learnt κs (c.head, (over times c.times, (over tags c.tags, (track, (instant, tt))))) r
+      (c.head, (over times c.times, (over tags c.tags, (track, (instant, tt)))))
       → From c ms t
       → From c (record { ask = seek track instant; got = r } ∷ ms) t
 
 -- From a creation that was not refused: the kinds, the calls with their answers, the last buffer. What the arrays held before is any.
 pub data IsHistory : List ℕ → List Told → Held → Type 0 where
-  from : {ms : List Told} {t : Held} (kinds : MutBor (List ℕ)) (times : MutBor (List (List ℤ))) (tags : MutBor (List (List ℕ)))
+  from : {ms : List Told} {t : Held} (kinds : Bor (List ℕ)) (times : MutBor (List (List ℤ))) (tags : MutBor (List (List ℕ)))
       (r : Answered) (ts : List (List ℤ)) (gs : List (List ℕ)) (κs : Lfts 3)
       → Create.Learnt κs (kinds, (times, (tags, tt))) r (kinds, (at_last times ts, (at_last tags gs, tt)))
       → r.answer.refusal ≡ 0

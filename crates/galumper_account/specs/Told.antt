@@ -3,18 +3,13 @@ use Rattle.std.specs.Prelude.{cond, List, [], ◌∷◌, ℕ, ◌-◌, T, eqb, �
 use Rattle.std.specs.Float.{binary64}
 use Rattle.std.specs.Float.Ieee.{fits}
 use Rattle.buffer_state.specs.declared.Accepted.{Accepted}
-use Rattle.buffer_state.specs.declared.Accepted.TheVariants as Accepted
 use Rattle.buffer_state.specs.declared.Answer.{Answer}
-use Rattle.buffer_state.specs.declared.Answer.TheVariants as Answer
 use Rattle.buffer_state.specs.declared.Count.{Count}
-use Rattle.buffer_state.specs.declared.Count.TheVariants as Count
 use Rattle.buffer_state.specs.declared.Mode.TheVariants.{Segments, Sequence}
 use Rattle.buffer_state.specs.declared.Read.{Read}
-use Rattle.buffer_state.specs.declared.Read.TheVariants as Read
 use Rattle.buffer_state.specs.declared.Refusal.{Refusal}
 use Rattle.buffer_state.specs.declared.Refusal.TheVariants.{IllFormed, ShortFates, NoTrack, FrameLimits, Seconds, Order, ResultLimits, Full, LastNumber, ShortList, Kinds, Malformed, LentSize, LargeFragment, NoStart}
 use Rattle.buffer_state.specs.declared.Sought.{Sought}
-use Rattle.buffer_state.specs.declared.Sought.TheVariants as Sought
 use Rattle.buffer_state.specs.declared.Stop.{Stop}
 use Rattle.buffer_state.specs.declared.Stop.TheVariants.{Nothing, By}
 use Rattle.account.specs.Made as Account

@@ -1,4 +1,6 @@
 // Which stored frames are of one track and group: a slot for each row of the tags, shared by those that are.
+#![tactic(auto)]
+
 ghost use Rattle.std.specs.Prelude.{◌≡◌, true, ◌≤◌, ◌<◌, length, take};
 ghost use Rattle.sorting.specs.Sorting.{most, rises};
 ghost use Rattle.groups.specs.Groups.{IsSlotted, entry_of, same_key, group_numbers, key_of, IsKeyed, place_of};
@@ -117,16 +119,23 @@ fn slots_by_sort(tags: &[[u32; 5]], first: usize, n: usize, slots: &mut [usize])
 
 // ---- either way
 
-// Slots of the rows from the first up to n. Groups that follow one another are told apart by the table, in one pass; those that it cannot
-// tell apart, by the sort.
+// Slots of the rows from the first up to n, in room that the caller lends. Groups that follow one another are told apart by the table, in
+// one pass; those that it cannot tell apart, by the sort.
+pub fn fill_slots(tags: &[[u32; 5]], first: usize, n: usize, slots: &mut [usize])
+    requires { (first ≤ n) × (n ≤ length tags.now) × (n ≤ most) × (length slots.old ≡ most) }
+    ensures { IsSlotted tags.now first n slots.new }
+{
+    if !slots_by_table(tags, first, n, slots) {
+        slots_by_sort(tags, first, n, slots);
+    }
+}
+
+// The same by value.
 pub fn slots_of(tags: &[[u32; 5]], first: usize, n: usize) -> [usize; MOST]
     requires { (first ≤ n) × (n ≤ length tags.now) × (n ≤ most) }
     ensures { IsSlotted tags.now first n result }
 {
     let mut slots = [0usize; MOST];
-    if slots_by_table(tags, first, n, &mut slots) {
-        return slots;
-    }
-    slots_by_sort(tags, first, n, &mut slots);
+    fill_slots(tags, first, n, &mut slots);
     slots
 }

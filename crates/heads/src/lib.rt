@@ -1,5 +1,7 @@
 // A state's head under an append: steps 1 to 6, and what step 9 does beside storing the frame.
 // A promise on a head is made of every buffer b that has it: h ≡ head_of b.
+#![tactic(auto)]
+
 ghost use Rattle.std.specs.Prelude.{◌≡◌, true, ◌&&◌, ◌||◌, cond, List, ◌*◌, ◌^◌, ◌≤◌, ◌<◌, pos, ◌+ℤ◌, ◌-ℤ◌, nat_abs, length};
 ghost use Rattle.std.specs.Int.Signed.{lt_z, mag};
 ghost use Rattle.buffer_state.specs.declared.Frame.{Frame};

@@ -1,4 +1,6 @@
 // Tests of single values: integers, the limits of document 01's "Times and numbers", a frame's end, and a track's number.
+#![tactic(auto)]
+
 ghost use Rattle.std.specs.Prelude.{◌≡◌, true, ◌&&◌, leb};
 ghost use Rattle.std.specs.Int.Signed.{le_z, lt_z};
 ghost use Rattle.seconds.specs.Seconds.{same_int};

@@ -1,7 +1,7 @@
 -- What holds of every reading that bytes lead to from a fresh one: each byte keeps it (`fair-run`). Laid out, such a reading is a reader that
 -- meets the condition, and it is read back as it was. Assumes nothing.
-use mathlib.Core.Path.{◌≡◌, refl, sym, ap, subst, ◌∙◌}
-use mathlib.Core.Bool.{Bool, true, false, cond}
+use mathlib.Core.Path.{◌≡◌, refl, sym, ap, ◌∙◌}
+use mathlib.Core.Bool.{Bool, true, false}
 use mathlib.Core.List.{List, [], ◌∷◌, ◌++◌}
 use Prim.Native.Nat.{ℕ, zero, suc, ◌+◌, ◌-◌, ◌≤◌, ◌<◌}
 use native.Mathlib.Omega.{arith}
@@ -14,12 +14,11 @@ use Rattle.laws.proofs.BoolLaws.{by-test, both_ways}
 use Rattle.boxes.specs.Boxes.{be4, be8}
 use Rattle.segments.specs.Listings.{moof_kind}
 use Rattle.lumps.specs.Cuts.{IsBytes}
-use Rattle.lumps.specs.Readers.{doing_of, reading_with, reading_of, laid_out, reader_of, kept_in, most_kept, most_left, good_reader}
+use Rattle.lumps.specs.Readers.{doing_of, reading_of, laid_out, reader_of, kept_in, most_kept, most_left, good_reader}
 use Rattle.lumps.specs.Readings.{most, Doing, heading, passing, keeping, stuck, large, Reading, fresh, opens_of, begun_of, going, fragment_opens, begins, stepping, step, run, is_large}
 use Rattle.lumps.specs.Scans.{Fits}
 use Rattle.lumps.specs.declared.Begun.{Begun}
 use Rattle.lumps.specs.declared.Begun.TheVariants as begun
-use Rattle.lumps.specs.declared.LumpReader.{LumpReader}
 use Rattle.lumps.specs.declared.Phase.{Phase}
 use Rattle.lumps.specs.declared.Phase.TheVariants.{Heading, Passing, Keeping, Stuck, Large}
 use Rattle.lumps.proofs.ByteLaws.{bytes-append, be4-bound, be8-bound}

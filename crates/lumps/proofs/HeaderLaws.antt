@@ -6,14 +6,13 @@ use native.Mathlib.Omega.{arith}
 use native.Mathlib.Decide.{dec_le}
 use native.Mathlib.Numerals.{add-one}
 use borrow.Author.Tests.{eqb-true, eqb-false}
-use lib.ListN.{length, get_or, take, drop, set, replicate, length-set, length-append, take-append-drop}
+use lib.ListN.{length, take, drop, set, replicate, length-set, take-append-drop}
 use lib.Seq.{take-suc-set, length-take-le, drop-set-lt, get_or-set_other, drop-append-add}
 use lib.Dec.{ltb, eqb}
 use Rattle.laws.proofs.BoolLaws.{by-test}
 use Rattle.boxes.specs.Boxes.{be4, be8}
 use Rattle.segments.specs.Listings.{moof_kind}
-use Rattle.lumps.specs.Readings.{most, heading, Reading, opens_of, begun_of, begins, stepping}
-use Rattle.lumps.specs.Readers.{reading_with}
+use Rattle.lumps.specs.Readings.{most, heading, opens_of, begun_of, begins, stepping}
 use Rattle.lumps.specs.Scans.{FitsIn, Fits, Shows}
 use Rattle.lumps.specs.declared.Begun.{Begun}
 use Rattle.lumps.specs.declared.Begun.TheVariants as begun

@@ -6,7 +6,6 @@ pub mod ReaderLaws
 pub mod ScanLaws
 pub mod HeaderLaws
 pub mod LumpLaws
-pub mod CopyLaws
 pub mod FairLaws
 pub mod Cited
 pub mod ReachedLaws

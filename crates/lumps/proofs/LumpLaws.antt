@@ -1,8 +1,8 @@
 -- From a lump that was gone through to what the call gives: each refusal, the reader, the buffer and the rows. Assumes nothing.
 use mathlib.Core.Path.{◌≡◌, refl, sym, ap, ◌∙◌}
-use mathlib.Core.Bool.{Bool, true, false, cond, not, ◌&&◌}
-use mathlib.Core.List.{List, [], ◌∷◌, ◌++◌, append-nil}
-use Prim.Native.Nat.{ℕ, zero, suc, ◌+◌, ◌-◌, ◌≤◌, ◌<◌}
+use mathlib.Core.Bool.{true, false, cond, not, ◌&&◌}
+use mathlib.Core.List.{List, [], ◌∷◌, ◌++◌}
+use Prim.Native.Nat.{ℕ, zero, suc, ◌-◌, ◌≤◌, ◌<◌}
 use native.Mathlib.Omega.{arith}
 use native.Mathlib.Decide.{dec_le}
 use borrow.Author.Tests.{ltb-false, ne_eqb}
@@ -17,10 +17,10 @@ use Rattle.buffer_state.specs.declared.Count.TheVariants.{Done}
 use Rattle.buffer_state.specs.declared.Refusal.TheVariants as why
 use Rattle.segments.specs.Segments.{list_movie, row_count, rows_after}
 use Rattle.segments.specs.declared.SegmentTrack.{SegmentTrack}
-use Rattle.lumps.specs.LumpAnswers.{whole_in, refused_by, listed_by}
+use Rattle.lumps.specs.LumpAnswers.{whole_in, listed_by}
 use Rattle.lumps.specs.Lumps.{Taken, goes_on, rows_told, listing, ends, tested_result, more_result, last_result, lumped_of, buffer_after, frames_after}
 use Rattle.lumps.specs.Readers.{doing_of, reading_with, reading_of, reader_of, kept_in, most_kept, good_reader}
-use Rattle.lumps.specs.Readings.{most, Doing, heading, passing, keeping, stuck, large, Reading, run, Told, framed, verdict, telling, tell, is_large}
+use Rattle.lumps.specs.Readings.{most, Doing, heading, passing, keeping, stuck, large, Reading, run, framed, verdict, telling, tell, is_large}
 use Rattle.lumps.specs.Scans.{Fits, part_of, kept_by, Standing, Through, Leads, Refuses}
 use Rattle.lumps.specs.declared.LumpReader.{LumpReader}
 use Rattle.lumps.specs.declared.Phase.{Phase}
@@ -105,17 +105,6 @@ pub led-large : (r : LumpReader) (buffer lump : List ℕ) (s : Scan) → Fits r 
     → is_large (run (reading_of r buffer) lump).doing ≡ is_large (doing_of s.reader.phase s.reader)
 led-large r buffer lump s f h st e =
     ap (λ (x : Reading). is_large x.doing) (standing-end r lump s st e (take r.kept buffer) (length-take-le r.kept buffer (omega (arith, f.kept, h))))
-
--- ---- where the body stands
-
-module _ (r : LumpReader) (s : Scan) (buffer lump : List ℕ) where
-  -- in the buffer: the lump adds nothing
-  pub kept-before : s.reader.kept ≡ r.kept → kept_by r s buffer lump ≡ take r.kept buffer
-  kept-before e = let z : s.reader.kept - r.kept ≡ 0 = omega (arith, e) in rw z (append-nil (take r.kept buffer))
-
-  -- in the lump: nothing was kept before
-  pub kept-in-lump : r.kept ≡ 0 → kept_by r s buffer lump ≡ part_of lump s.from (s.reader.kept - r.kept)
-  kept-in-lump e = ap (λ (n : ℕ). take n buffer ++ part_of lump s.from (s.reader.kept - r.kept)) e
 
 -- ---- the end
 

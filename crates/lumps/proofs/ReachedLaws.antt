@@ -1,21 +1,20 @@
 -- The condition on readers is exact: to a reader that meets it some bytes lead from a fresh one, whatever it keeps (`good-reached`). They are
 -- the headers and the body that say so, written out. Assumes nothing.
 use mathlib.Core.Path.{◌≡◌, refl, sym, ap, subst, ◌∙◌}
-use mathlib.Core.Bool.{Bool, true, false, cond}
+use mathlib.Core.Bool.{true, false}
 use mathlib.Core.List.{List, [], ◌∷◌, ◌++◌, append_assoc, append-nil}
-use Prim.Native.Nat.{ℕ, zero, suc, ◌+◌, ◌*◌, ◌-◌, ◌/◌, ◌%◌, ◌≤◌, ◌<◌}
+use Prim.Native.Nat.{ℕ, zero, suc, ◌+◌, ◌-◌, ◌/◌, ◌%◌, ◌≤◌, ◌<◌}
 use native.Mathlib.Omega.{arith}
-use native.Mathlib.Decide.{dec_le}
 use borrow.Author.Tests.{eqb-true, eqb-false, ne_eqb, le-ltb}
 use lib.ListN.{length, take, drop, length-append, take-append-drop}
 use lib.Seq.{take-length, length-take-le, drop-length}
-use lib.Dec.{ltb, eqb}
+use lib.Dec.{eqb}
 use Rattle.laws.proofs.BoolLaws.{by-test}
 use Rattle.boxes.specs.Boxes.{be4, be8}
 use Rattle.segments.specs.Listings.{moof_kind}
 use Rattle.lumps.specs.Cuts.{IsBytes}
-use Rattle.lumps.specs.Readers.{doing_of, reading_with, reading_of, most_kept, most_left, good_reader}
-use Rattle.lumps.specs.Readings.{most, Doing, heading, passing, keeping, stuck, Reading, fresh, begun_of, going, begins, stepping, step, run}
+use Rattle.lumps.specs.Readers.{doing_of, reading_of, most_kept, good_reader}
+use Rattle.lumps.specs.Readings.{most, heading, passing, keeping, stuck, Reading, fresh, begun_of, begins, run}
 use Rattle.lumps.specs.Scans.{FitsIn, Fits}
 use Rattle.lumps.specs.declared.Begun.{Begun}
 use Rattle.lumps.specs.declared.Begun.TheVariants as begun

@@ -1,21 +1,20 @@
 -- The condition on readers as facts and back; a reader that meets it is its own reading laid out. Assumes nothing.
-use mathlib.Core.Path.{◌≡◌, refl, sym, ap, subst, ◌∙◌}
+use mathlib.Core.Path.{◌≡◌, refl, sym, ap, ◌∙◌}
 use mathlib.Core.Bool.{Bool, true, false, ◌&&◌, ◌||◌}
 use mathlib.Core.List.{List, [], ◌∷◌, ◌++◌}
 use Prim.Native.Nat.{ℕ, zero, suc, ◌+◌, ◌-◌, ◌≤◌, ◌<◌}
 use native.Mathlib.Omega.{arith}
 use native.Mathlib.Decide.{dec_le}
 use native.Mathlib.Numerals.{add-one}
-use borrow.Author.Tests.{ltb-true, ltb-false, leb-true, eqb-true, le-leb, lt-ltb, le-ltb, eq-eqb, ne_eqb}
+use borrow.Author.Tests.{ltb-true, leb-true, eqb-true, le-leb, lt-ltb, eq-eqb, ne_eqb}
 use lib.ListN.{length, get_or, take, drop, replicate, length-drop, take-append-drop}
 use lib.Seq.{length-take-le, drop_at, drop-cons}
 use lib.Dec.{ltb, leb, eqb}
-use Rattle.laws.proofs.BoolLaws.{both_ways, and_left, and_right, and_both, or_cases, or_left, or_right, same_test}
+use Rattle.laws.proofs.BoolLaws.{both_ways, and_left, and_right, and_both, or_cases, or_left, or_right}
 use Rattle.boxes.specs.Boxes.{be4}
 use Rattle.buffer_state.specs.WellFormed.{all_of}
-use Rattle.lumps.specs.Readings.{Reading}
-use Rattle.lumps.specs.Readers.{reading_with, doing_of, bare_reader, laid_out, reader_of, most_kept, most_left, good_in, good_counts, good_reader}
-use Rattle.lumps.specs.Scans.{FitsIn, Fits, Shows}
+use Rattle.lumps.specs.Readers.{reading_with, doing_of, laid_out, reader_of, most_kept, most_left, good_in, good_counts, good_reader}
+use Rattle.lumps.specs.Scans.{FitsIn, Fits}
 use Rattle.lumps.specs.declared.LumpReader.{LumpReader}
 use Rattle.lumps.specs.declared.Phase.{Phase}
 use Rattle.lumps.specs.declared.Phase.TheVariants.{Heading, Passing, Keeping, Stuck, Large}
@@ -51,12 +50,6 @@ module _ (l : List ℕ) (i : ℕ) (h : i < length l) where
   zeros-next e = from_place ∙ rw (eq-eqb (get_or l i 0) 0 e)
 
 -- ---- what is asked in a phase
-
--- the room for the rest of a body, without a sum that could wrap
-pub room-left : (kept left : ℕ) → kept ≤ most_kept → leb left (most_kept - kept) ≡ leb (kept + left) most_kept
-room-left kept left h = same_test (leb left (most_kept - kept)) (leb (kept + left) most_kept)
-    (λ e. let k = leb-true left (most_kept - kept) e in le-leb (kept + left) most_kept (omega arith))
-    (λ e. let k = leb-true (kept + left) most_kept e in le-leb left (most_kept - kept) (omega arith))
 
 module _ (r : LumpReader) where
   in-fits : (p : Phase) → good_in p r ≡ true → FitsIn p r
@@ -103,14 +96,7 @@ module _ (r : LumpReader) where
   seen_few Stuck f = omega (arith, f.0)
   seen_few Large f = omega (arith, f.0)
 
-  -- in the phase that was found
-  pub good_in-phase : (p : Phase) → r.phase ≡ p → good_in p r ≡ good_in r.phase r
-  good_in-phase p e = ap (λ (x : Phase). good_in x r) (sym e)
-
   -- ---- the whole condition
-
-  pub counts-kept : good_counts r ≡ true → r.kept ≤ most_kept
-  counts-kept h = let few = and_right (zeros (drop r.seen r.head)) _ h in let most = and_right (leb r.fragments 2) _ few in leb-true r.kept most_kept (and_left (leb r.kept most_kept) _ most)
 
   pub good-fits : length r.head ≡ 16 → good_reader r ≡ true → Fits r
   unfolding good_reader
@@ -173,25 +159,3 @@ module _ (r : LumpReader) where
       go Keeping q g = let h = bare g.0 in λ j. record { phase = sym q j; head = h j; seen = sym g.0 j; left = r.left; fragments = r.fragments; kept = e j }
       go Stuck q g = let h = bare g.0 in λ j. record { phase = sym q j; head = h j; seen = sym g.0 j; left = sym g.1 j; fragments = r.fragments; kept = e j }
       go Large q g = let h = bare g.0 in λ j. record { phase = sym q j; head = h j; seen = sym g.0 j; left = sym g.1 j; fragments = r.fragments; kept = e j }
-
--- ---- a reader without header bytes
-
-pub bare-shows : (p : Phase) (left n kept : ℕ) (x : List ℕ → Reading) → FitsIn p (bare_reader p left n kept) → n ≤ 2 → kept ≤ most_kept → (n ≡ 0 → kept ≡ 0)
-    → ((k : List ℕ) → reading_with (bare_reader p left n kept) k ≡ x k) → (q : LumpReader) → q ≡ bare_reader p left n kept → Shows q kept x
-bare-shows p left n kept x f a b d e q h =
-    subst (λ (z : LumpReader). Shows z kept x) (sym h)
-    (record { reads = λ k _. e k; fits = record { phase = f; bytes = refl; head = refl; fragments = a; kept = b; none = d }; kept = refl })
-
--- it is in the phase that it was made in, and in no other
-pub bare-phase : (p : Phase) (left n kept : ℕ) (q : LumpReader) → q ≡ bare_reader p left n kept → q.phase ≡ p
-bare-phase p left n kept q h = ap (λ (z : LumpReader). z.phase) h
-
-abbrev is_keeping : Phase → Bool
-is_keeping Heading = false
-is_keeping Passing = false
-is_keeping Keeping = true
-is_keeping Stuck = false
-is_keeping Large = false
-
-pub not-keeping : {X : Type 0} (p : Phase) → is_keeping p ≡ false → p ≡ Keeping → X
-not-keeping p n e = both_ways (ap is_keeping e) n

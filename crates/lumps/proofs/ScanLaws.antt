@@ -1,15 +1,15 @@
--- The turns of a scan: at its start, by a byte of a header, by a stretch of a body, where nothing counts any more, and at its end. Assumes
+-- The turns of a scan: by a byte of a header, by a stretch of a body, where nothing counts any more, and at its end. Assumes
 -- nothing.
 use mathlib.Core.Path.{◌≡◌, refl, sym, ap, subst, ◌∙◌}
-use mathlib.Core.Bool.{Bool, true, false, cond}
-use mathlib.Core.List.{List, [], ◌++◌, append-nil}
+use mathlib.Core.Bool.{true, false, cond}
+use mathlib.Core.List.{List, ◌++◌, append-nil}
 use Prim.Native.Nat.{ℕ, zero, suc, ◌+◌, ◌-◌, ◌≤◌, ◌<◌}
 use native.Mathlib.Omega.{arith}
 use native.Mathlib.Numerals.{add-one}
 use borrow.Author.Tests.{leb-true, leb-false}
 use lib.Dec.{leb}
 use lib.ListN.{length, get_or, take, drop, length-append, length-drop, drop_of_length-le}
-use lib.Seq.{drop-cons, drop-drop, drop-nil, length-take-le}
+use lib.Seq.{drop-cons, drop-drop, length-take-le}
 use Rattle.laws.proofs.BoolLaws.{by-test}
 use Rattle.lumps.specs.Readings.{Doing, heading, Reading, going, stepping, step, run}
 use Rattle.lumps.specs.Readers.{doing_of, reading_with}
@@ -21,9 +21,6 @@ use Rattle.lumps.specs.declared.Scan.{Scan}
 use Rattle.lumps.proofs.StretchLaws.{in_body, stretch-run, stuck-run, large-run}
 
 -- ---- the bytes that a lump adds
-
-part_none : (lump : List ℕ) (at n : ℕ) → part_of lump at (n - n) ≡ []
-part_none lump at n = let e : n - n ≡ 0 = omega arith in rw e
 
 pub part_length : (lump : List ℕ) (at n : ℕ) → at + n ≤ length lump → length (part_of lump at n) ≡ n
 part_length lump at n h = length-take-le n (drop at lump) (rw (length-drop at lump) (omega arith))
@@ -60,18 +57,6 @@ reads-keeping : (r : LumpReader) → r.phase ≡ Keeping → 0 < r.left → (kep
 reads-keeping r e h kept = reads_in r Keeping e kept ∙ rw (going-some (body_of true) r.left h)
 
 module _ (r : LumpReader) (lump : List ℕ) where
-  -- ---- the start
-
-  pub standing-start : Fits r → Standing r lump (record { reader = r; from = 0; next = 0 })
-  standing-start f = record {
-    within = omega arith;
-    fits = f;
-    keeps = omega arith;
-    part = omega arith;
-    once = λ _ _. refl;
-    left = λ kept _. ap (λ (x : List ℕ). run (reading_with r x) lump) (sym (ap (λ (x : List ℕ). kept ++ x) (part_none lump 0 r.kept) ∙ append-nil kept));
-  }
-
   module _ (s : Scan) (st : Standing r lump s) where
     -- the bytes kept so far
     abbrev so_far : List ℕ → List ℕ

@@ -1,16 +1,15 @@
 -- The machine and the condition on readers at small segments, written out byte by byte and computed by the checker. Assumes nothing.
 use mathlib.Core.Path.{◌≡◌, refl}
-use mathlib.Core.Bool.{Bool, true, false}
+use mathlib.Core.Bool.{true, false}
 use mathlib.Core.List.{List, [], ◌∷◌, ◌++◌, map}
 use Prim.Native.Nat.{ℕ}
 use lib.ListN.{replicate, take}
 use Rattle.boxes.specs.Boxes.{be4, be8, skipping}
 use Rattle.boxes.specs.Lone.{none, lone}
 use Rattle.buffer_state.specs.WellFormed.{all_of}
-use Rattle.lumps.specs.LargeFragments.{large_past, has_large}
+use Rattle.lumps.specs.LargeFragments.{large_past}
 use Rattle.lumps.specs.Readers.{reader_of, good_reader}
-use Rattle.lumps.specs.Readings.{Doing, heading, passing, keeping, stuck, large, Reading, fresh, run, Told, too_large, framed, tell}
-use Rattle.lumps.specs.declared.LumpReader.{LumpReader}
+use Rattle.lumps.specs.Readings.{heading, passing, keeping, stuck, large, fresh, run, Told, too_large, framed, tell}
 use Rattle.lumps.specs.declared.Phase.TheVariants.{Heading, Passing, Keeping, Stuck, Large}
 use Rattle.lumps.proofs.WholeLaws.{whole_told}
 

@@ -1,9 +1,9 @@
 -- Document 02, No. 5: a reading as it is handed from call to call, a reader by value and the first bytes of a lent buffer; and the condition
 -- that every reader handed out meets, "1 is given exactly when a condition of yours fails".
-use Rattle.std.specs.Prelude.{Bool, true, false, ◌&&◌, ◌||◌, List, ◌++◌, ℕ, ◌+◌, ◌-◌, length, take, drop, replicate, ltb, leb, eqb}
+use Rattle.std.specs.Prelude.{Bool, false, ◌&&◌, ◌||◌, List, ◌++◌, ℕ, ◌+◌, ◌-◌, length, take, drop, replicate, ltb, leb, eqb}
 use Rattle.boxes.specs.Boxes.{be4}
 use Rattle.buffer_state.specs.WellFormed.{all_of}
-use Rattle.lumps.specs.Readings.{most, Doing, heading, passing, keeping, stuck, large, Reading}
+use Rattle.lumps.specs.Readings.{Doing, heading, passing, keeping, stuck, large, Reading}
 use Rattle.lumps.specs.declared.LumpReader.{LumpReader}
 use Rattle.lumps.specs.declared.Phase.{Phase}
 use Rattle.lumps.specs.declared.Phase.TheVariants.{Heading, Passing, Keeping, Stuck, Large}

@@ -1,5 +1,7 @@
 // Document 02, No. 5: a segment in lumps, cut anywhere. A reader by value says how far the bytes have come, and a lent buffer keeps the
 // body of the movie fragment. A lump is first gone through without a write, so that a refused call takes nothing of it.
+#![tactic(auto)]
+
 ghost use Rattle.std.specs.Prelude.{◌≡◌, Bool, true, false, cond, List, [], ◌++◌, ℕ, ◌+◌, ◌-◌, ◌≤◌, ◌<◌, length, take, drop, leb, eqb};
 ghost use Rattle.buffer_state.specs.WellFormed.{all_of};
 ghost use Rattle.buffer_state.specs.declared.Answer.TheVariants as answer;
@@ -31,7 +33,7 @@ const MOST_LEFT: u64 = 18446744073709551599;
 
 // Where a reader stands: in a header, or between two boxes; in a body that is passed over, or kept; past a size under its header, where no
 // box can be told any more; past the header of a movie fragment box that is too large, where no reader is handed out.
-#[derive(Drop)]
+#[derive(Clone, Copy)]
 pub enum Phase {
     Heading,
     Passing,
@@ -40,7 +42,7 @@ pub enum Phase {
     Large,
 }
 
-#[derive(Drop)]
+#[derive(Clone, Copy)]
 pub struct LumpReader {
     pub head: [u8; 16], // the bytes met of the header, then zeros
     pub seen: usize, // how many they are
@@ -60,7 +62,7 @@ pub enum Begun {
 }
 
 // How far a lump is gone through: the reader there, where the bytes begin that the lump adds to those that are kept, and the next place.
-#[derive(Drop)]
+#[derive(Clone, Copy)]
 pub struct Scan {
     pub reader: LumpReader,
     pub from: usize,
@@ -384,8 +386,8 @@ fn list_joined(
 {
     let at = first.len();
     let end = at + rest.len();
-    bytes::copy(first, room);
-    bytes::copy(rest, &mut room[at..]);
+    room[..at].copy_from_slice(first);
+    room[at..end].copy_from_slice(rest);
     segments::list_movie(of, &room[..end], list)
 }
 
@@ -498,7 +500,7 @@ fn keep(r: LumpReader, s: Scan, buffer: &mut [u8], lump: &[u8])
     let from = s.from;
     let q = s.reader;
     let end = from + (q.kept - at);
-    bytes::copy(&lump[from..end], &mut buffer[at..]);
+    buffer[at..q.kept].copy_from_slice(&lump[from..end]);
 }
 
 // Where a lump leads to, or why it is not taken.

@@ -1,4 +1,6 @@
 // A sample's media times in microseconds, rounded down: its limits, by products alone, and the row that lists it, by division.
+#![tactic(auto)]
+
 ghost use Rattle.std.specs.Prelude.{◌≡◌, true, cond, ◌*◌, ◌<◌, ◌≤◌, pos, ◌+ℤ◌, ◌*ℤ◌};
 ghost use Rattle.std.specs.Int.Signed.{mag, quot_z, rem_z, lt_z};
 ghost use Rattle.buffer_state.specs.Limits.{is_within, offered_time};
@@ -6,7 +8,7 @@ ghost use Rattle.buffer_state.specs.WellFormed.{all_of};
 ghost use Rattle.media_times.specs.MediaTimes.{down_by, micros_of, duration_of, good_scale, in_limits, flagged_by, row_of, evenly};
 
 // A sample as the file has it: in units of the timescale.
-#[derive(Drop)]
+#[derive(Clone, Copy)]
 pub struct Sample {
     pub time: u64, // media decode time
     pub offset: i64, // composition offset

@@ -1,5 +1,7 @@
 // A store of frames lent as two arrays of numbers: a row of times (presentation, decode) and a row of tags (track, flag, duration,
 // number, group) for each place. A place is read as a Frame by value and written from one.
+#![tactic(auto)]
+
 ghost use Rattle.std.specs.Prelude.{◌≡◌, true, ◌++◌, ◌≤◌, ◌<◌, length, take, drop, get_or, set};
 ghost use Rattle.std.specs.Int.Signed.{lt_z};
 ghost use Rattle.buffer_state.specs.Layout.{zero_frame, padded_list};

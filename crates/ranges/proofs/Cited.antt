@@ -14,7 +14,6 @@ use borrow.Author.Tests.{leb-true}
 use Rattle.laws.proofs.BoolLaws.{split, both_ways, and_left, and_right, or-none-left, or-none-right}
 use Rattle.laws.proofs.IntLaws.{weaken, le-lt, lt-lt}
 use Rattle.buffer_state.specs.declared.Count.{Count}
-use Rattle.buffer_state.specs.declared.Count.TheVariants as Count
 use Rattle.buffer_state.specs.declared.Frame.{Frame}
 use Rattle.buffer_state.specs.declared.Head.{Head}
 use Rattle.buffer_state.specs.declared.Refusal.{Refusal}

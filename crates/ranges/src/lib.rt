@@ -1,4 +1,6 @@
 // The bars on the timeline: a track's ranges, what all tracks have in common, and both written to a lent list.
+#![tactic(auto)]
+
 ghost use Rattle.std.specs.Prelude.{◌≡◌, true, cond, ◌+◌, ◌-◌, ◌%◌, ◌<◌, ◌≤◌, length, take, drop, get_or, set};
 ghost use Rattle.std.specs.Int.Signed.{lt_z};
 ghost use Rattle.seconds.specs.Seconds.{same_int};
@@ -17,7 +19,7 @@ ghost use Rattle.ranges.specs.Walks.{up_from, sound_at, keys_of, places_in, stre
 use buffer_state::{Count, Frame, Head, PLACES, Refusal, Tags, Times};
 
 // From start up to but not including end, in microseconds.
-#[derive(Drop)]
+#[derive(Clone, Copy)]
 struct Span {
     start: i64,
     end: i64,
@@ -128,7 +130,7 @@ fn first_from(times: &[[i64; 2]], tags: &[[u32; 5]], from: usize, n: usize, trac
 }
 
 // The order in which a walk takes so many frames: as they stand in the store from a place on, or as keys name their places.
-#[derive(Drop)]
+#[derive(Clone, Copy)]
 struct Order {
     count: usize,
     first: usize,

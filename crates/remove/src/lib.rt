@@ -1,4 +1,6 @@
 // Removing a stretch of time: document 01, "Removing, aborting, setting". Any state and any times may be handed in.
+#![tactic(auto)]
+
 ghost use Rattle.std.specs.Prelude.{◌≡◌, true, false, ◌&&◌, ◌∷◌, ◌≤◌, ◌<◌, eqb, length, take};
 ghost use Rattle.seconds.specs.Seconds.{at};
 ghost use Rattle.buffer_state.specs.declared.Frame.{Frame};

@@ -5,38 +5,39 @@ ghost use Rattle.buffer_state.specs.Limits.{places};
 use crate::unread;
 use buffer_state::{Frame, Group, Mode, PLACES, Setting, Settings, Tags, Times, Track, WindowEnd};
 use slots::Slot;
+use std::io::Write;
 use text::Output;
 
-pub fn ok(out: &mut Output) {
+pub fn ok<W: Write>(out: &mut Output<W>) {
     text::put(b"ok\n", out);
 }
 
-pub fn none(out: &mut Output) {
+pub fn none<W: Write>(out: &mut Output<W>) {
     text::put(b"none\n", out);
 }
 
 // Of a line that was not read.
-pub fn unknown(out: &mut Output) {
+pub fn unknown<W: Write>(out: &mut Output<W>) {
     unread::note_line(out);
     text::put(b"unknown\n", out);
 }
 
 // Of a batch, whose lines that were not read are noted apart.
-pub fn unknown_batch(out: &mut Output) {
+pub fn unknown_batch<W: Write>(out: &mut Output<W>) {
     text::put(b"unknown\n", out);
 }
 
-pub fn declined(out: &mut Output) {
+pub fn declined<W: Write>(out: &mut Output<W>) {
     text::put(b"declined\n", out);
 }
 
-pub fn refused(n: usize, out: &mut Output) {
+pub fn refused<W: Write>(n: usize, out: &mut Output<W>) {
     text::put(b"refused ", out);
     text::number(n as u64, out);
 }
 
 // The end of a line, which says where a lent list was touched.
-pub fn end(untouched: bool, out: &mut Output) {
+pub fn end<W: Write>(untouched: bool, out: &mut Output<W>) {
     if untouched {
         text::put(b"\n", out);
     } else {
@@ -45,7 +46,7 @@ pub fn end(untouched: bool, out: &mut Output) {
 }
 
 // The three doubles of a reading, the last of them where there is a window end.
-pub fn settings(count: usize, doubles: [f64; 3], out: &mut Output) {
+pub fn settings<W: Write>(count: usize, doubles: [f64; 3], out: &mut Output<W>) {
     text::put(b"ok settings ", out);
     text::double(doubles[0], out);
     text::put(b" ", out);
@@ -59,7 +60,7 @@ pub fn settings(count: usize, doubles: [f64; 3], out: &mut Output) {
 }
 
 // How many frames of a batch were accepted, and the refusal that stopped it or 0.
-pub fn batch(accepted: usize, stop: usize, out: &mut Output) {
+pub fn batch<W: Write>(accepted: usize, stop: usize, out: &mut Output<W>) {
     text::put(b" batch ", out);
     text::number(accepted as u64, out);
     text::put(b" ", out);
@@ -67,13 +68,13 @@ pub fn batch(accepted: usize, stop: usize, out: &mut Output) {
 }
 
 // How many frames a walk took.
-pub fn taken(n: usize, out: &mut Output) {
+pub fn taken<W: Write>(n: usize, out: &mut Output<W>) {
     text::put(b" taken ", out);
     text::number(n as u64, out);
 }
 
 // Where to start decoding: the target, the flagged frame, and how many frames to decode.
-pub fn start(target: usize, flagged: usize, count: usize, out: &mut Output) {
+pub fn start<W: Write>(target: usize, flagged: usize, count: usize, out: &mut Output<W>) {
     text::put(b" seek ", out);
     text::number(target as u64, out);
     text::put(b" ", out);
@@ -83,7 +84,7 @@ pub fn start(target: usize, flagged: usize, count: usize, out: &mut Output) {
 }
 
 // What to feed.
-pub fn fed(bytes: &[u8], out: &mut Output) {
+pub fn fed<W: Write>(bytes: &[u8], out: &mut Output<W>) {
     text::put(b"ok feed ", out);
     text::bytes(bytes, out);
     text::put(b"\n", out);
@@ -92,7 +93,7 @@ pub fn fed(bytes: &[u8], out: &mut Output) {
 // ---- the state
 
 // The kind of the track at place i, where there are more than i.
-fn kind(t: Track, i: usize, n: usize, out: &mut Output) {
+fn kind<W: Write>(t: Track, i: usize, n: usize, out: &mut Output<W>) {
     if n <= i {
         return;
     }
@@ -102,20 +103,20 @@ fn kind(t: Track, i: usize, n: usize, out: &mut Output) {
     text::number(t.kind as u64, out);
 }
 
-fn setting(s: Setting, out: &mut Output) {
+fn setting<W: Write>(s: Setting, out: &mut Output<W>) {
     text::time(s.micros, out);
     text::put(b"/", out);
     text::double(s.seconds, out);
 }
 
-fn mode(m: Mode, out: &mut Output) {
+fn mode<W: Write>(m: Mode, out: &mut Output<W>) {
     match m {
         Mode::Segments => text::put(b" mode=segments", out),
         Mode::Sequence => text::put(b" mode=sequence", out),
     }
 }
 
-fn maybe(set: bool, z: i64, out: &mut Output) {
+fn maybe<W: Write>(set: bool, z: i64, out: &mut Output<W>) {
     if set {
         text::time(z, out);
     } else {
@@ -123,14 +124,14 @@ fn maybe(set: bool, z: i64, out: &mut Output) {
     }
 }
 
-fn group(g: Group, out: &mut Output) {
+fn group<W: Write>(g: Group, out: &mut Output<W>) {
     text::put(b" group-start=", out);
     maybe(g.begun, g.start, out);
     text::put(b" group-end=", out);
     text::time(g.end, out);
 }
 
-fn kept(s: Settings, out: &mut Output) {
+fn kept<W: Write>(s: Settings, out: &mut Output<W>) {
     text::put(b" offset=", out);
     setting(s.offset, out);
     text::put(b" window-start=", out);
@@ -147,7 +148,7 @@ fn kept(s: Settings, out: &mut Output) {
     }
 }
 
-fn track(t: Track, i: usize, n: usize, out: &mut Output) {
+fn track<W: Write>(t: Track, i: usize, n: usize, out: &mut Output<W>) {
     if n <= i {
         return;
     }
@@ -166,7 +167,7 @@ fn track(t: Track, i: usize, n: usize, out: &mut Output) {
     }
 }
 
-fn flag(on: bool, out: &mut Output) {
+fn flag<W: Write>(on: bool, out: &mut Output<W>) {
     if on {
         text::put(b",1", out);
     } else {
@@ -175,7 +176,7 @@ fn flag(on: bool, out: &mut Output) {
 }
 
 // A frame's group, which stands beside its row where that has no room for it.
-fn group_of(f: Frame, place: usize, slot: Slot, out: &mut Output) {
+fn group_of<W: Write>(f: Frame, place: usize, slot: Slot, out: &mut Output<W>) {
     if slot.beyond == place {
         text::time(slot.group, out);
     } else {
@@ -184,7 +185,7 @@ fn group_of(f: Frame, place: usize, slot: Slot, out: &mut Output) {
 }
 
 // The frame at a place, counted from 1.
-fn frame(f: Frame, place: usize, slot: Slot, out: &mut Output) {
+fn frame<W: Write>(f: Frame, place: usize, slot: Slot, out: &mut Output<W>) {
     text::put(b" (", out);
     text::number(f.track as u64, out);
     text::put(b",", out);
@@ -201,7 +202,13 @@ fn frame(f: Frame, place: usize, slot: Slot, out: &mut Output) {
     text::put(b")", out);
 }
 
-fn frames(times: &[[i64; 2]], tags: &[[u32; 5]], n: usize, slot: Slot, out: &mut Output)
+fn frames<W: Write>(
+    times: &[[i64; 2]],
+    tags: &[[u32; 5]],
+    n: usize,
+    slot: Slot,
+    out: &mut Output<W>,
+)
     requires { (length times.now ≡ places) × (length tags.now ≡ places) }
 {
     for i in 0..n {
@@ -219,7 +226,7 @@ fn stored(n: usize) -> usize {
     PLACES
 }
 
-pub fn state(slot: Slot, times: &Times, tags: &Tags, out: &mut Output) {
+pub fn state<W: Write>(slot: Slot, times: &Times, tags: &Tags, out: &mut Output<W>) {
     let h = slot.head;
     let n = h.ntracks;
     let ts = h.tracks;
@@ -250,7 +257,7 @@ pub fn state(slot: Slot, times: &Times, tags: &Tags, out: &mut Output) {
 
 // ---- the frames of a segment
 
-fn sample(rows: &[[i64; 6]], i: usize, out: &mut Output) {
+fn sample<W: Write>(rows: &[[i64; 6]], i: usize, out: &mut Output<W>) {
     if i < rows.len() {
         let r = rows[i];
         text::put(b" (", out);
@@ -270,7 +277,7 @@ fn sample(rows: &[[i64; 6]], i: usize, out: &mut Output) {
 }
 
 // The first n rows.
-pub fn samples(rows: &[[i64; 6]], n: usize, out: &mut Output) {
+pub fn samples<W: Write>(rows: &[[i64; 6]], n: usize, out: &mut Output<W>) {
     text::put(b"ok samples", out);
     for i in 0..n {
         sample(rows, i, out);

@@ -6,6 +6,7 @@ use crate::marks::MOST_LENT;
 use crate::{answers, calls, unread};
 use script::words::{Room, Words, lent, word};
 use slots::Batch;
+use std::io::Write;
 use text::Output;
 use text::read::Small;
 
@@ -13,20 +14,20 @@ use text::read::Small;
 
 const LINES: usize = 1088; // the lines lent where the script says nothing
 
-#[derive(Drop)]
+#[derive(Clone, Copy)]
 pub enum Opened {
     Is(Batch),
     Not,
 }
 
 // The line that is answered is one of the batch's, and was not read.
-fn not_read(b: Batch, out: &mut Output) -> Batch {
+fn not_read<W: Write>(b: Batch, out: &mut Output<W>) -> Batch {
     unread::note_line(out);
     Batch { read: false, ..b }
 }
 
 // The batch with the lines that it is lent. A word that does not say so many is noted here, and answered when the call would be made.
-fn with_lines(b: Batch, line: &[u8], w: Words, out: &mut Output) -> Batch {
+fn with_lines<W: Write>(b: Batch, line: &[u8], w: Words, out: &mut Output<W>) -> Batch {
     let Room::Is(lines) = lent(line, w, 2, b"fates=", LINES) else {
         return not_read(b, out);
     };
@@ -37,12 +38,12 @@ fn with_lines(b: Batch, line: &[u8], w: Words, out: &mut Output) -> Batch {
 }
 
 // Without the number of its frames no line after it is known to be one of them.
-pub fn begun(line: &[u8], w: Words, out: &mut Output) -> Opened {
+pub fn begun<W: Write>(line: &[u8], w: Words, out: &mut Output<W>) -> Opened {
     let Small::Is(left) = calls::natural(word(line, w, 1)) else {
         return Opened::Not;
     };
     let mut b = slots::no_batch();
-    b.line = out[unread::LINE];
+    b.line = out.notes[unread::LINE];
     b.left = left;
     Opened::Is(with_lines(b, line, w, out))
 }
@@ -82,13 +83,13 @@ fn keep(b: Batch, row: [i64; 6], rows: &mut [[i64; 6]]) -> Batch {
     Batch { rows: k + 1, ..b }
 }
 
-pub fn with_frame(
+pub fn with_frame<W: Write>(
     b: Batch,
     line: &[u8],
     cut: bool,
     w: Words,
     rows: &mut [[i64; 6]],
-    out: &mut Output,
+    out: &mut Output<W>,
 ) -> Batch
     requires { 1 ≤ b.left }
 {
@@ -109,7 +110,7 @@ pub fn kept(rows: &[[i64; 6]], n: usize) -> &[[i64; 6]] {
 }
 
 // A batch whose frames do not all come. Where each line that came was read, it is the batch's own that was not.
-pub fn cut_short(b: Batch, out: &mut Output) {
+pub fn cut_short<W: Write>(b: Batch, out: &mut Output<W>) {
     if b.left == 0 {
         return;
     }

@@ -1,11 +1,11 @@
 // A line as a call on a buffer, all but creation, in the numbers of call_rows.
 use crate::marks::MOST_LENT;
 use script::words::{Room, Words, lent, part, word};
-use text::read::{Double, Small, Whole};
+use text::read::{Double, Small, Whole, find};
 
 const LINES: usize = buffer_state::PLACES; // the lines lent where the script says nothing
 
-#[derive(Drop)]
+#[derive(Clone, Copy)]
 pub struct Call {
     pub kind: u32,
     pub track: u32,
@@ -19,7 +19,7 @@ pub struct Call {
     pub places: usize,
 }
 
-#[derive(Drop)]
+#[derive(Clone, Copy)]
 pub enum Parsed {
     Call(Call),
     Unknown,
@@ -130,10 +130,10 @@ fn mode_call(line: &[u8], w: Words) -> Parsed {
         return Parsed::Unknown;
     }
     let mode = word(line, w, 1);
-    if check::same(mode, b"segments") {
+    if mode == b"segments".as_slice() {
         return Parsed::Call(bare(call_rows::MODE));
     }
-    if check::same(mode, b"sequence") {
+    if mode == b"sequence".as_slice() {
         return Parsed::Call(Call {
             flag: 1,
             ..bare(call_rows::MODE)
@@ -200,40 +200,40 @@ fn seek_call(line: &[u8], w: Words) -> Parsed {
 
 pub fn call_of(line: &[u8], w: Words) -> Parsed {
     let name = word(line, w, 0);
-    if check::same(name, b"append") {
+    if name == b"append".as_slice() {
         return append_call(line, w);
     }
-    if check::same(name, b"remove") {
+    if name == b"remove".as_slice() {
         return remove_call(line, w);
     }
-    if check::same(name, b"abort") {
+    if name == b"abort".as_slice() {
         return bare_call(call_rows::ABORT, w);
     }
-    if check::same(name, b"mode") {
+    if name == b"mode".as_slice() {
         return mode_call(line, w);
     }
-    if check::same(name, b"offset") {
+    if name == b"offset".as_slice() {
         return seconds_call(call_rows::OFFSET, line, w);
     }
-    if check::same(name, b"window-start") {
+    if name == b"window-start".as_slice() {
         return seconds_call(call_rows::WINDOW_START, line, w);
     }
-    if check::same(name, b"window-end") {
+    if name == b"window-end".as_slice() {
         return seconds_call(call_rows::WINDOW_END, line, w);
     }
-    if check::same(name, b"settings") {
+    if name == b"settings".as_slice() {
         return bare_call(call_rows::READ, w);
     }
-    if check::same(name, b"ranges") {
+    if name == b"ranges".as_slice() {
         return ranges_call(call_rows::TRACK_RANGES, line, w);
     }
-    if check::same(name, b"common") {
+    if name == b"common".as_slice() {
         return common_call(line, w);
     }
-    if check::same(name, b"walked") {
+    if name == b"walked".as_slice() {
         return ranges_call(call_rows::WALKED, line, w);
     }
-    if check::same(name, b"seek") {
+    if name == b"seek".as_slice() {
         return seek_call(line, w);
     }
     Parsed::Unknown
@@ -242,7 +242,7 @@ pub fn call_of(line: &[u8], w: Words) -> Parsed {
 // ---- creation
 
 // The kinds of a creation: the first five of them, as more are refused like five, and whether each could be read.
-#[derive(Drop)]
+#[derive(Clone, Copy)]
 pub struct Kinds {
     pub read: bool,
     pub count: usize,
@@ -257,7 +257,7 @@ fn no_kinds() -> Kinds {
     }
 }
 
-#[derive(Drop)]
+#[derive(Clone, Copy)]
 pub enum Kind {
     Is(u8),
     Not,
@@ -292,10 +292,10 @@ fn with_kind(k: Kinds, w: &[u8]) -> Kinds {
 pub fn kinds_of(line: &[u8]) -> Kinds {
     let n = line.len();
     let mut k = no_kinds();
-    let mut at = bytes::scan::find(line, 0, n, 32);
+    let mut at = find(line, 32);
     while at < n {
         let start = at + 1;
-        at = bytes::scan::find(line, start, n, 32);
+        at = start + find(&line[start..], 32);
         k = with_kind(k, part(line, start, at));
     }
     k

@@ -3,12 +3,20 @@ use crate::answers;
 use crate::calls::natural;
 use crate::segment_words::{Bytes, MOST_BYTES, read_bytes};
 use script::words::{Words, part, word};
+use std::io::Write;
 use text::Output;
 use text::read::Small;
 
 // The bytes of the two last words, once what is asked for is known. A place beyond 32 bits overruns any line's bytes as the last of them
 // does.
-fn on_bytes(line: &[u8], w: Words, whole: bool, start: u32, end: u32, out: &mut Output) {
+fn on_bytes<W: Write>(
+    line: &[u8],
+    w: Words,
+    whole: bool,
+    start: u32,
+    end: u32,
+    out: &mut Output<W>,
+) {
     let mut initialization = [0u8; MOST_BYTES];
     let mut segment = [0u8; MOST_BYTES];
     let Bytes::Are(i) = read_bytes(word(line, w, 4), &mut initialization) else {
@@ -31,14 +39,14 @@ fn on_bytes(line: &[u8], w: Words, whole: bool, start: u32, end: u32, out: &mut 
     );
 }
 
-pub fn call(line: &[u8], w: Words, out: &mut Output) {
+pub fn call<W: Write>(line: &[u8], w: Words, out: &mut Output<W>) {
     if w.count != 6 {
         answers::unknown(out);
         return;
     }
     let of = word(line, w, 1);
-    let whole = check::same(of, b"init");
-    if !whole && !check::same(of, b"segment") {
+    let whole = of == b"init".as_slice();
+    if !whole && of != b"segment".as_slice() {
         answers::unknown(out);
         return;
     }

@@ -2,6 +2,8 @@
 ghost use Rattle.std.specs.Prelude.{◌≤◌};
 
 use script::words::{begins, part};
+use std::io::Read;
+use text::read::find;
 
 const NEWLINE: u8 = 10;
 
@@ -13,7 +15,7 @@ pub type Line = [u8; ROOM];
 
 // What was read and not yet taken stands in the chunk from one place up to another. The line that is being read has a length; it is
 // whole once its newline is found, or the input ended.
-#[derive(Drop)]
+#[derive(Clone, Copy)]
 pub struct Reading {
     pub from: usize,
     pub to: usize,
@@ -34,16 +36,15 @@ pub fn start() -> Reading
     }
 }
 
-// A chunk is read where nothing is left of the last one.
-fn refill(r: Reading, chunk: &mut [u8; 4096]) -> Reading
+// A chunk is read where nothing is left of the last one. A read that fails ends the input.
+fn refill(r: Reading, from: &mut impl Read, chunk: &mut [u8; 4096]) -> Reading
     requires { (r.from ≤ r.to) × (r.to ≤ 4096) }
     ensures { (result.from ≤ result.to) × (result.to ≤ 4096) }
 {
     if r.from < r.to {
         return r;
     }
-    let got = libc::read(0, chunk);
-    let n = io::count(got, chunk);
+    let n = from.read(chunk).unwrap_or(0);
     Reading {
         from: 0,
         to: n,
@@ -75,7 +76,7 @@ fn more(r: Reading, chunk: &[u8; 4096], line: &mut Line) -> Reading
 {
     let from = r.from;
     let to = r.to;
-    let e = bytes::scan::find(chunk, from, to, NEWLINE);
+    let e = from + find(&chunk[from..to], NEWLINE);
     let length = take(part(chunk, from, e), line, r.length);
     if e < to {
         return Reading {
@@ -95,16 +96,21 @@ fn more(r: Reading, chunk: &[u8; 4096], line: &mut Line) -> Reading
     }
 }
 
-fn step(r: Reading, chunk: &mut [u8; 4096], line: &mut Line) -> Reading
+fn step(r: Reading, from: &mut impl Read, chunk: &mut [u8; 4096], line: &mut Line) -> Reading
     requires { (r.from ≤ r.to) × (r.to ≤ 4096) }
     ensures { (result.from ≤ result.to) × (result.to ≤ 4096) }
 {
-    let q = refill(r, chunk);
+    let q = refill(r, from, chunk);
     more(q, chunk, line)
 }
 
 // The next line, without its newline. A proved loop has to end, and nothing says that a line does: the turns are more than any run has.
-pub fn next_line(r: Reading, chunk: &mut [u8; 4096], line: &mut Line) -> Reading
+pub fn next_line(
+    r: Reading,
+    from: &mut impl Read,
+    chunk: &mut [u8; 4096],
+    line: &mut Line,
+) -> Reading
     requires { (r.from ≤ r.to) × (r.to ≤ 4096) }
     ensures { (result.from ≤ result.to) × (result.to ≤ 4096) }
 {
@@ -114,7 +120,7 @@ pub fn next_line(r: Reading, chunk: &mut [u8; 4096], line: &mut Line) -> Reading
     let mut turns = u64::MAX;
     while 0 < turns {
         turns -= 1;
-        q = step(q, chunk, line);
+        q = step(q, from, chunk, line);
         if q.whole {
             return q;
         }

@@ -8,6 +8,7 @@ use buffer_state::Count;
 use lumps::{LumpReader, Lumped};
 use script::words::{Room, Words, begins, lent_at, part, word};
 use segments::SegmentTrack;
+use std::io::Write;
 use text::Output;
 
 const KEPT: usize = 65536; // the bytes of a buffer that a reader may use; as many are lent where the script says nothing
@@ -19,7 +20,7 @@ pub type Buffer = [u8; ROOM];
 // ---- the words
 
 // A lump whose bytes are lent beside it: how many they are, whether it is the last, and how much is lent to the call.
-#[derive(Drop)]
+#[derive(Clone, Copy)]
 pub struct Lump {
     pub of: SegmentTrack,
     pub length: usize,
@@ -28,7 +29,7 @@ pub struct Lump {
     pub room: usize,
 }
 
-#[derive(Drop)]
+#[derive(Clone, Copy)]
 pub enum Parsed {
     Is(Lump),
     Not,
@@ -59,8 +60,8 @@ fn lent_to(l: Lump, line: &[u8], w: Words) -> Parsed {
 
 fn lump_of(line: &[u8], w: Words, bytes: &mut [u8]) -> Parsed {
     let which = word(line, w, 1);
-    let last = check::same(which, b"last");
-    if !last && !check::same(which, b"more") {
+    let last = which == b"last".as_slice();
+    if !last && which != b"more".as_slice() {
         return Parsed::Not;
     }
     let Asked::Track(of) = track_asked(line, w, 2) else {
@@ -82,7 +83,7 @@ fn lump_of(line: &[u8], w: Words, bytes: &mut [u8]) -> Parsed {
 // ---- the call
 
 // What is said of a lump that was taken. Frames are listed only where it is the last.
-fn done(n: usize, last: bool, rows: &[[i64; 6]], untouched: bool, out: &mut Output) {
+fn done<W: Write>(n: usize, last: bool, rows: &[[i64; 6]], untouched: bool, out: &mut Output<W>) {
     if last {
         answers::samples(rows, n, out);
         answers::end(untouched && marks::rows_marked(rows, n), out);
@@ -93,13 +94,13 @@ fn done(n: usize, last: bool, rows: &[[i64; 6]], untouched: bool, out: &mut Outp
 }
 
 // A call that is refused leaves all of the buffer as it was, any other what lies past the bytes that the reader may use.
-fn told(
+fn told<W: Write>(
     answer: Count,
     last: bool,
     rows: &[[i64; 6]],
     before: &[u8],
     buffer: &[u8],
-    out: &mut Output,
+    out: &mut Output<W>,
 ) {
     match answer {
         Count::Done(n) => {
@@ -133,12 +134,12 @@ fn taken(l: Lump, r: LumpReader, bytes: &[u8], buffer: &mut [u8], rows: &mut [[i
 
 // A lump, with rows that hold the marks. The reader that the call hands back is taken also where it is refused, so that a wrong one shows in
 // the answers to come.
-fn on_rows(
+fn on_rows<W: Write>(
     l: Lump,
     r: LumpReader,
     bytes: &[u8],
     buffer: &mut Buffer,
-    out: &mut Output,
+    out: &mut Output<W>,
 ) -> LumpReader
     requires { (l.room ≤ 131072) × (l.places ≤ 4096) }
 {
@@ -150,12 +151,12 @@ fn on_rows(
     t.reader
 }
 
-pub fn call(
+pub fn call<W: Write>(
     r: LumpReader,
     line: &[u8],
     w: Words,
     buffer: &mut Buffer,
-    out: &mut Output,
+    out: &mut Output<W>,
 ) -> LumpReader {
     let mut bytes = [0u8; MOST_BYTES];
     let Parsed::Is(l) = lump_of(line, w, &mut bytes) else {
@@ -173,7 +174,7 @@ pub fn call(
     on_rows(l, r, part(&bytes, 0, l.length), buffer, out)
 }
 
-pub fn fresh(r: LumpReader, w: Words, out: &mut Output) -> LumpReader {
+pub fn fresh<W: Write>(r: LumpReader, w: Words, out: &mut Output<W>) -> LumpReader {
     if w.count != 1 {
         answers::unknown(out);
         return r;

@@ -1,3 +1,4 @@
+#![tactic(auto)]
 // A script of calls on standard input, and an answer to each on standard output. What could not be read or written is told at the end, on
 // standard error.
 ghost use Rattle.std.specs.Prelude.{◌≤◌};
@@ -22,6 +23,8 @@ use lumps::LumpReader;
 use script::words;
 use script::words::Words;
 use slots::{Batch, Session};
+use std::io;
+use std::io::{BufWriter, Read, Write};
 use text::Output;
 use unread::Text;
 
@@ -29,23 +32,23 @@ const COMMENT: u8 = 35; // `#`
 
 // ---- the session
 
-fn with_slot_in_use(s: Session, second: bool, out: &mut Output) -> Session {
+fn with_slot_in_use<W: Write>(s: Session, second: bool, out: &mut Output<W>) -> Session {
     let mut t = s;
     t.second_used = second;
     answers::ok(out);
     t
 }
 
-fn buffer(s: Session, line: &[u8], w: Words, out: &mut Output) -> Session {
+fn buffer<W: Write>(s: Session, line: &[u8], w: Words, out: &mut Output<W>) -> Session {
     let n = words::word(line, w, 1);
     if w.count != 2 {
         answers::unknown(out);
         return s;
     }
-    if check::same(n, b"1") {
+    if n == b"1".as_slice() {
         return with_slot_in_use(s, false, out);
     }
-    if check::same(n, b"2") {
+    if n == b"2".as_slice() {
         return with_slot_in_use(s, true, out);
     }
     answers::unknown(out);
@@ -53,14 +56,14 @@ fn buffer(s: Session, line: &[u8], w: Words, out: &mut Output) -> Session {
 }
 
 // The store of the slot in use goes to the saved one.
-fn save(
+fn save<W: Write>(
     s: Session,
     w: Words,
     times: &Times,
     tags: &Tags,
     saved_times: &mut Times,
     saved_tags: &mut Tags,
-    out: &mut Output,
+    out: &mut Output<W>,
 ) -> Session {
     if w.count != 1 {
         answers::unknown(out);
@@ -78,14 +81,14 @@ fn save(
     t
 }
 
-fn restore(
+fn restore<W: Write>(
     s: Session,
     w: Words,
     times: &mut Times,
     tags: &mut Tags,
     saved_times: &Times,
     saved_tags: &Tags,
-    out: &mut Output,
+    out: &mut Output<W>,
 ) -> Session {
     if w.count != 1 {
         answers::unknown(out);
@@ -102,13 +105,13 @@ fn restore(
 }
 
 // A batch has its one answer once no frame is to come.
-fn gathered(
+fn gathered<W: Write>(
     s: Session,
     b: Batch,
     rows: &[[i64; 6]],
     times: &mut Times,
     tags: &mut Tags,
-    out: &mut Output,
+    out: &mut Output<W>,
 ) -> Session {
     let mut t = s;
     t.batch = b;
@@ -125,14 +128,14 @@ fn gathered(
     slots::with_used(t, slot)
 }
 
-fn begin_batch(
+fn begin_batch<W: Write>(
     s: Session,
     line: &[u8],
     w: Words,
     rows: &[[i64; 6]],
     times: &mut Times,
     tags: &mut Tags,
-    out: &mut Output,
+    out: &mut Output<W>,
 ) -> Session {
     match batches::begun(line, w, out) {
         Opened::Is(b) => gathered(s, b, rows, times, tags, out),
@@ -144,7 +147,7 @@ fn begin_batch(
 }
 
 // A line on the store of the slot in use, with the saved one beside it.
-fn on_session(
+fn on_session<W: Write>(
     s: Session,
     line: &[u8],
     w: Words,
@@ -153,26 +156,26 @@ fn on_session(
     tags: &mut Tags,
     saved_times: &mut Times,
     saved_tags: &mut Tags,
-    out: &mut Output,
+    out: &mut Output<W>,
 ) -> Session {
     let name = words::word(line, w, 0);
-    if check::same(name, b"buffer") {
+    if name == b"buffer".as_slice() {
         return buffer(s, line, w, out);
     }
-    if check::same(name, b"save") {
+    if name == b"save".as_slice() {
         return save(s, w, times, tags, saved_times, saved_tags, out);
     }
-    if check::same(name, b"restore") {
+    if name == b"restore".as_slice() {
         return restore(s, w, times, tags, saved_times, saved_tags, out);
     }
-    if check::same(name, b"batch") {
+    if name == b"batch".as_slice() {
         return begin_batch(s, line, w, rows, times, tags, out);
     }
-    if check::same(name, b"segment") {
+    if name == b"segment".as_slice() {
         segment::call(line, w, out);
         return s;
     }
-    if check::same(name, b"feed") {
+    if name == b"feed".as_slice() {
         feed_words::call(line, w, out);
         return s;
     }
@@ -183,7 +186,7 @@ fn on_session(
 // ---- the lines
 
 // What is kept from line to line: the session, and the reader of lumps, which needs nothing of it.
-#[derive(Drop)]
+#[derive(Clone, Copy)]
 pub struct Standing {
     pub session: Session,
     pub reader: LumpReader,
@@ -196,7 +199,7 @@ fn fresh() -> Standing {
 }
 
 // A line for the reader of lumps, or for the session.
-fn answer(
+fn answer<W: Write>(
     standing: Standing,
     line: &[u8],
     w: Words,
@@ -206,15 +209,15 @@ fn answer(
     tags: &mut Tags,
     saved_times: &mut Times,
     saved_tags: &mut Tags,
-    out: &mut Output,
+    out: &mut Output<W>,
 ) -> Standing {
     let mut next = standing;
     let name = words::word(line, w, 0);
-    if check::same(name, b"lump") {
+    if name == b"lump".as_slice() {
         next.reader = lump::call(standing.reader, line, w, buffer, out);
         return next;
     }
-    if check::same(name, b"lump-fresh") {
+    if name == b"lump-fresh".as_slice() {
         next.reader = lump::fresh(standing.reader, w, out);
         return next;
     }
@@ -240,7 +243,7 @@ fn blank(line: &[u8]) -> bool {
 }
 
 // A line that belongs to a batch.
-fn on_frame(
+fn on_frame<W: Write>(
     s: Session,
     line: &[u8],
     cut: bool,
@@ -248,7 +251,7 @@ fn on_frame(
     rows: &mut [[i64; 6]; 65],
     times: &mut Times,
     tags: &mut Tags,
-    out: &mut Output,
+    out: &mut Output<W>,
 ) -> Session
     requires { 1 ≤ s.batch.left }
 {
@@ -257,7 +260,7 @@ fn on_frame(
 }
 
 // A line, which is cut off where it fills its room.
-fn on_line(
+fn on_line<W: Write>(
     standing: Standing,
     line: &[u8],
     cut: bool,
@@ -267,7 +270,7 @@ fn on_line(
     tags: &mut Tags,
     saved_times: &mut Times,
     saved_tags: &mut Tags,
-    out: &mut Output,
+    out: &mut Output<W>,
 ) -> Standing {
     if blank(line) {
         return standing;
@@ -275,7 +278,7 @@ fn on_line(
     let mut next = standing;
     let s = standing.session;
     let w = words::words_of(line);
-    if 0 < s.batch.left && check::same(words::word(line, w, 0), b"frame") {
+    if 0 < s.batch.left && words::word(line, w, 0) == b"frame".as_slice() {
         next.session = on_frame(s, line, cut, w, rows, times, tags, out);
         return next;
     }
@@ -302,7 +305,8 @@ fn on_line(
 }
 
 // The lines one after another, each on the store of the slot then in use; what is kept of the first that was not read.
-fn run(
+fn run<W: Write>(
+    from: &mut impl Read,
     chunk: &mut [u8; 4096],
     line: &mut Line,
     rows: &mut [[i64; 6]; 65],
@@ -313,7 +317,7 @@ fn run(
     second_tags: &mut Tags,
     saved_times: &mut Times,
     saved_tags: &mut Tags,
-    out: &mut Output,
+    out: &mut Output<W>,
 ) -> Text {
     let mut standing = fresh();
     let mut r = input::start();
@@ -322,7 +326,7 @@ fn run(
     while 0 < turns {
         turns -= 1;
         let number = unread::next_number(out);
-        r = input::next_line(r, chunk, line);
+        r = input::next_line(r, from, chunk, line);
         let said = input::text_of(words::part(line, 0, r.length), number == 1);
         let cut = line.len() <= r.length;
         if standing.session.second_used {
@@ -354,6 +358,7 @@ fn run(
         }
         let s = standing.session;
         kept = unread::kept(kept, s.batch, said, out);
+        text::flush(out); // an answer is written before the next line is awaited
         if r.ended {
             batches::cut_short(s.batch, out);
             return kept;
@@ -362,7 +367,8 @@ fn run(
     kept
 }
 
-fn main() {
+fn main(rt: HostRuntime) -> io::Result<()> {
+    let mut from = rt.reader();
     let mut chunk = [0u8; 4096];
     let mut line = [0u8; input::ROOM];
     let mut rows = [[0i64; 6]; 65]; // of a batch: one more than it may have, as more are refused like 65
@@ -373,8 +379,9 @@ fn main() {
     let mut second_tags = [[0u32; 5]; PLACES];
     let mut saved_times = [[0i64; 2]; PLACES];
     let mut saved_tags = [[0u32; 5]; PLACES];
-    let mut out = text::no_output();
+    let mut out = text::no_output(BufWriter::new(rt.alloc(), io::writer(&rt))?);
     let kept = run(
+        &mut from,
         &mut chunk,
         &mut line,
         &mut rows,
@@ -387,6 +394,9 @@ fn main() {
         &mut saved_tags,
         &mut out,
     );
-    unread::tell(kept, &out);
-    text::tell_failed(b"replay", &out);
+    text::flush(&mut out);
+    let mut error = rt.stderr();
+    unread::tell(kept, &out, &mut error);
+    text::tell_failed(b"replay", &out, &mut error);
+    Ok(())
 }

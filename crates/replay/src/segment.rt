@@ -7,9 +7,10 @@ use crate::{answers, marks};
 use buffer_state::Count;
 use script::words::{Room, Words, lent, part, word};
 use segments::SegmentTrack;
+use std::io::Write;
 use text::Output;
 
-fn told(answer: Count, rows: &[[i64; 6]], out: &mut Output) {
+fn told<W: Write>(answer: Count, rows: &[[i64; 6]], out: &mut Output<W>) {
     match answer {
         Count::Done(n) => {
             answers::samples(rows, n, out);
@@ -30,7 +31,7 @@ fn listed(of: SegmentTrack, segment: &[u8], rows: &mut [[i64; 6]], places: usize
 }
 
 // A listing in rows that hold the marks.
-fn on_rows(of: SegmentTrack, segment: &[u8], places: usize, out: &mut Output)
+fn on_rows<W: Write>(of: SegmentTrack, segment: &[u8], places: usize, out: &mut Output<W>)
     requires { places ≤ 4096 }
 {
     let mut rows = [[marks::TIME; 6]; 4096];
@@ -38,7 +39,7 @@ fn on_rows(of: SegmentTrack, segment: &[u8], places: usize, out: &mut Output)
     told(answer, &rows, out);
 }
 
-pub fn call(line: &[u8], w: Words, out: &mut Output) {
+pub fn call<W: Write>(line: &[u8], w: Words, out: &mut Output<W>) {
     let mut bytes = [0u8; MOST_BYTES];
     let Room::Is(places) = lent(line, w, 8, b"places=", MOST_LENT) else {
         answers::unknown(out);

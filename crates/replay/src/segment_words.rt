@@ -11,14 +11,14 @@ pub const MOST_BYTES: usize = input::ROOM / 2; // more than a line has digits fo
 
 // ---- the bytes
 
-#[derive(Drop)]
+#[derive(Clone, Copy)]
 pub enum Byte {
     Is(u8),
     Not,
 }
 
 // How many bytes a word stands for.
-#[derive(Drop)]
+#[derive(Clone, Copy)]
 pub enum Bytes {
     Are(usize),
     Not,
@@ -81,7 +81,7 @@ pub fn read_bytes(w: &[u8], bytes: &mut [u8]) -> Bytes {
     if w.len() == 0 {
         return Bytes::Not;
     }
-    if check::same(w, b"-") {
+    if w == b"-".as_slice() {
         return Bytes::Are(0);
     }
     read_digits(w, bytes)
@@ -89,7 +89,7 @@ pub fn read_bytes(w: &[u8], bytes: &mut [u8]) -> Bytes {
 
 // ---- the numbers
 
-#[derive(Drop)]
+#[derive(Clone, Copy)]
 pub enum Given {
     Are(Defaults),
     Not,
@@ -115,7 +115,7 @@ fn defaults_asked(line: &[u8], w: Words, k: usize) -> Given
     })
 }
 
-#[derive(Drop)]
+#[derive(Clone, Copy)]
 pub enum Asked {
     Track(SegmentTrack),
     Unknown,

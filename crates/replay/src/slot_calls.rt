@@ -10,6 +10,7 @@ use script::pokes::{Poked, Verdict};
 use script::words::Words;
 use script::{pokes, words};
 use slots::Slot;
+use std::io::Write;
 use text::Output;
 
 fn gives_fates(kind: u32) -> bool {
@@ -39,7 +40,13 @@ fn untouched(kind: u32, count: usize, fates: &[[u32; 2]], list: &[[i64; 2]]) -> 
 }
 
 // What a call that was not refused answers.
-fn done(kind: u32, step: Step, fates: &[[u32; 2]], list: &[[i64; 2]], out: &mut Output) {
+fn done<W: Write>(
+    kind: u32,
+    step: &Step,
+    fates: &[[u32; 2]],
+    list: &[[i64; 2]],
+    out: &mut Output<W>,
+) {
     if kind == call_rows::READ {
         let doubles = step.doubles;
         answers::settings(step.count, doubles, out);
@@ -67,7 +74,13 @@ fn done(kind: u32, step: Step, fates: &[[u32; 2]], list: &[[i64; 2]], out: &mut 
     }
 }
 
-fn told(kind: u32, step: Step, fates: &[[u32; 2]], list: &[[i64; 2]], out: &mut Output) {
+fn told<W: Write>(
+    kind: u32,
+    step: &Step,
+    fates: &[[u32; 2]],
+    list: &[[i64; 2]],
+    out: &mut Output<W>,
+) {
     if step.refusal == 0 {
         done(kind, step, fates, list, out);
     } else {
@@ -107,7 +120,7 @@ fn made(
 }
 
 // A call on lists that hold the marks.
-fn on_lists(
+fn on_lists<W: Write>(
     slot: Slot,
     c: Call,
     frames: &[[i64; 6]],
@@ -115,7 +128,7 @@ fn on_lists(
     tags: &mut Tags,
     fates: &mut [[u32; 2]; 4096],
     list: &mut [[i64; 2]; 4096],
-    out: &mut Output,
+    out: &mut Output<W>,
 ) -> Slot {
     if MOST_LENT < c.lines {
         answers::unknown(out);
@@ -130,7 +143,7 @@ fn on_lists(
         return slot;
     }
     let step = made(slots::handed(slot), c, frames, times, tags, fates, list);
-    told(c.kind, step, fates, list, out);
+    told(c.kind, &step, fates, list, out);
     if step.refusal != 0 {
         return slot;
     }
@@ -139,20 +152,26 @@ fn on_lists(
 }
 
 // A call, with the frames of a batch.
-pub fn on_call(
+pub fn on_call<W: Write>(
     slot: Slot,
     c: Call,
     frames: &[[i64; 6]],
     times: &mut Times,
     tags: &mut Tags,
-    out: &mut Output,
+    out: &mut Output<W>,
 ) -> Slot {
     let mut fates = [[marks::LINE; 2]; 4096];
     let mut list = [[marks::TIME; 2]; 4096];
     on_lists(slot, c, frames, times, tags, &mut fates, &mut list, out)
 }
 
-fn create(slot: Slot, line: &[u8], times: &mut Times, tags: &mut Tags, out: &mut Output) -> Slot {
+fn create<W: Write>(
+    slot: Slot,
+    line: &[u8],
+    times: &mut Times,
+    tags: &mut Tags,
+    out: &mut Output<W>,
+) -> Slot {
     let k = calls::kinds_of(line);
     if !k.read {
         answers::unknown(out);
@@ -176,7 +195,7 @@ fn create(slot: Slot, line: &[u8], times: &mut Times, tags: &mut Tags, out: &mut
     }
 }
 
-fn state(slot: Slot, w: Words, times: &Times, tags: &Tags, out: &mut Output) {
+fn state<W: Write>(slot: Slot, w: Words, times: &Times, tags: &Tags, out: &mut Output<W>) {
     if w.count != 1 {
         answers::unknown(out);
         return;
@@ -188,13 +207,13 @@ fn state(slot: Slot, w: Words, times: &Times, tags: &Tags, out: &mut Output) {
     answers::state(slot, times, tags, out);
 }
 
-fn poke(
+fn poke<W: Write>(
     slot: Slot,
     line: &[u8],
     w: Words,
     times: &mut Times,
     tags: &mut Tags,
-    out: &mut Output,
+    out: &mut Output<W>,
 ) -> Slot {
     let p = pokes::poke(slot, line, w, times, tags);
     let verdict = p.verdict;
@@ -208,7 +227,7 @@ fn poke(
 }
 
 // A poke that could be read.
-fn poke_read(slot: Slot, p: Poked, out: &mut Output) -> Slot {
+fn poke_read<W: Write>(slot: Slot, p: Poked, out: &mut Output<W>) -> Slot {
     if !slot.held {
         answers::none(out);
         return slot;
@@ -226,23 +245,23 @@ fn poke_read(slot: Slot, p: Poked, out: &mut Output) -> Slot {
     }
 }
 
-pub fn on_slot(
+pub fn on_slot<W: Write>(
     slot: Slot,
     line: &[u8],
     w: Words,
     times: &mut Times,
     tags: &mut Tags,
-    out: &mut Output,
+    out: &mut Output<W>,
 ) -> Slot {
     let name = words::word(line, w, 0);
-    if check::same(name, b"create") {
+    if name == b"create".as_slice() {
         return create(slot, line, times, tags, out);
     }
-    if check::same(name, b"state") {
+    if name == b"state".as_slice() {
         state(slot, w, times, tags, out);
         return slot;
     }
-    if check::same(name, b"poke") {
+    if name == b"poke".as_slice() {
         return poke(slot, line, w, times, tags, out);
     }
     match calls::call_of(line, w) {

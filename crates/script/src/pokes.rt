@@ -14,40 +14,40 @@ const DURATION: u8 = 2;
 const END: u8 = 4;
 
 // Done; a number that the field cannot hold; or a poke that cannot be read. What stands beside the last two is not used.
-#[derive(Drop)]
+#[derive(Clone, Copy)]
 pub enum Verdict {
     Done,
     Declined,
     Unknown,
 }
 
-#[derive(Drop)]
+#[derive(Clone, Copy)]
 pub struct Poked {
     pub verdict: Verdict,
     pub slot: Slot,
 }
 
-#[derive(Drop)]
+#[derive(Clone, Copy)]
 pub struct PokedTrack {
     pub verdict: Verdict,
     pub track: Track,
     pub set: u8,
 }
 
-#[derive(Drop)]
+#[derive(Clone, Copy)]
 pub struct PokedSetting {
     pub verdict: Verdict,
     pub setting: Setting,
 }
 
-#[derive(Drop)]
+#[derive(Clone, Copy)]
 pub struct PokedSettings {
     pub verdict: Verdict,
     pub settings: Settings,
     pub spare: f64,
 }
 
-#[derive(Drop)]
+#[derive(Clone, Copy)]
 pub struct PokedGroup {
     pub verdict: Verdict,
     pub group: Group,
@@ -55,38 +55,38 @@ pub struct PokedGroup {
 
 // ---- what a word says of a field
 
-#[derive(Drop)]
+#[derive(Clone, Copy)]
 pub struct TimeWord {
     pub verdict: Verdict,
     pub set: bool,
     pub micros: i64,
 }
 
-#[derive(Drop)]
+#[derive(Clone, Copy)]
 pub struct NumberWord {
     pub verdict: Verdict,
     pub number: u32,
 }
 
-#[derive(Drop)]
+#[derive(Clone, Copy)]
 pub struct ByteWord {
     pub verdict: Verdict,
     pub byte: u8,
 }
 
-#[derive(Drop)]
+#[derive(Clone, Copy)]
 pub struct FlagWord {
     pub verdict: Verdict,
     pub on: bool,
 }
 
-#[derive(Drop)]
+#[derive(Clone, Copy)]
 pub struct DoubleWord {
     pub verdict: Verdict,
     pub seconds: f64,
 }
 
-#[derive(Drop)]
+#[derive(Clone, Copy)]
 pub struct ModeWord {
     pub verdict: Verdict,
     pub mode: Mode,
@@ -114,7 +114,7 @@ fn time(w: &[u8]) -> TimeWord {
 
 // MAYBE of the protocol: a number, `unset`, or `unset:N`.
 fn maybe(w: &[u8]) -> TimeWord {
-    if check::same(w, b"unset") {
+    if w == b"unset".as_slice() {
         return TimeWord {
             verdict: Verdict::Done,
             set: false,
@@ -192,13 +192,13 @@ fn double(w: &[u8]) -> DoubleWord {
 }
 
 fn mode(w: &[u8]) -> ModeWord {
-    if check::same(w, b"segments") {
+    if w == b"segments".as_slice() {
         return ModeWord {
             verdict: Verdict::Done,
             mode: Mode::Segments,
         };
     }
-    if check::same(w, b"sequence") {
+    if w == b"sequence".as_slice() {
         return ModeWord {
             verdict: Verdict::Done,
             mode: Mode::Sequence,
@@ -235,15 +235,15 @@ fn poked_three(t: Track, set: u8, name: &[u8], value: &[u8]) -> PokedTrack {
     let mut u = t;
     let m = maybe(value);
     let v = m.verdict;
-    if check::same(name, b"last-decode") {
+    if name == b"last-decode".as_slice() {
         u.dts = m.micros;
         return three_with(v, u, set, DECODE, m.set);
     }
-    if check::same(name, b"highest-end") {
+    if name == b"highest-end".as_slice() {
         u.end = m.micros;
         return three_with(v, u, set, END, m.set);
     }
-    if !check::same(name, b"last-duration") {
+    if name != b"last-duration".as_slice() {
         return track_with(Verdict::Unknown, t, set);
     }
     let n = number(text::read::small_of(m.micros));
@@ -263,13 +263,13 @@ fn first_of(a: Verdict, b: Verdict) -> Verdict {
 
 fn poked_track(t: Track, set: u8, name: &[u8], value: &[u8]) -> PokedTrack {
     let mut u = t;
-    if check::same(name, b"kind") {
+    if name == b"kind".as_slice() {
         let b = byte(value);
         u.kind = b.byte;
         let v = b.verdict;
         return track_with(v, u, set);
     }
-    if check::same(name, b"need") {
+    if name == b"need".as_slice() {
         let b = flag(value);
         u.need = b.on;
         let v = b.verdict;
@@ -328,14 +328,14 @@ fn is_bounded(end: WindowEnd) -> bool {
 
 fn poked_end(s: Settings, spare: f64, name: &[u8], value: &[u8]) -> PokedSettings {
     let end = s.end;
-    if check::same(name, b"window-end-us") {
+    if name == b"window-end-us".as_slice() {
         let m = maybe(value);
         let v = m.verdict;
         let mut t = s;
         t.limit = m.micros;
         return end_with(t, v, m.set, end_double(end, spare));
     }
-    if check::same(name, b"window-end-double") {
+    if name == b"window-end-double".as_slice() {
         let k = double(value);
         let v = k.verdict;
         return end_with(s, v, is_bounded(end), k.seconds);
@@ -346,13 +346,13 @@ fn poked_end(s: Settings, spare: f64, name: &[u8], value: &[u8]) -> PokedSetting
 // `us` or `double`, the two halves of a setting.
 fn poked_setting(o: Setting, half: &[u8], value: &[u8]) -> PokedSetting {
     let mut setting = o;
-    if check::same(half, b"us") {
+    if half == b"us".as_slice() {
         let m = time(value);
         setting.micros = m.micros;
         let verdict = m.verdict;
         return PokedSetting { verdict, setting };
     }
-    if check::same(half, b"double") {
+    if half == b"double".as_slice() {
         let k = double(value);
         setting.seconds = k.seconds;
         let verdict = k.verdict;
@@ -384,7 +384,7 @@ fn poked_settings(s: Settings, spare: f64, name: &[u8], value: &[u8]) -> PokedSe
 }
 
 fn poked_group(g: Group, name: &[u8], value: &[u8]) -> PokedGroup {
-    if check::same(name, b"group-start") {
+    if name == b"group-start".as_slice() {
         let m = maybe(value);
         let verdict = m.verdict;
         let group = Group {
@@ -487,15 +487,15 @@ fn poke_number(slot: Slot, name: &[u8], value: &[u8]) -> Poked {
     let n = number(text::read::as_small(value));
     let v = n.verdict;
     let mut h = slot.head;
-    if check::same(name, b"last-number") {
+    if name == b"last-number".as_slice() {
         h.last = n.number;
         return poked_with(v, slot, h);
     }
-    if check::same(name, b"group") {
+    if name == b"group".as_slice() {
         h.group.number = n.number;
         return poked_with(v, slot, h);
     }
-    if check::same(name, b"tracks") {
+    if name == b"tracks".as_slice() {
         h.ntracks = n.number as usize;
         return poked_with(v, slot, h);
     }
@@ -504,23 +504,23 @@ fn poke_number(slot: Slot, name: &[u8], value: &[u8]) -> Poked {
 }
 
 fn is_number(name: &[u8]) -> bool {
-    if check::same(name, b"last-number") {
+    if name == b"last-number".as_slice() {
         return true;
     }
-    if check::same(name, b"group") {
+    if name == b"group".as_slice() {
         return true;
     }
-    if check::same(name, b"tracks") {
+    if name == b"tracks".as_slice() {
         return true;
     }
-    check::same(name, b"frames")
+    name == b"frames".as_slice()
 }
 
 fn is_group(name: &[u8]) -> bool {
-    if check::same(name, b"group-start") {
+    if name == b"group-start".as_slice() {
         return true;
     }
-    check::same(name, b"group-end")
+    name == b"group-end".as_slice()
 }
 
 // ---- a frame in its place
@@ -538,19 +538,19 @@ const GROUP: usize = 4; // the column of the tags that a frame's group is in
 fn tag_column(name: &[u8]) -> usize
     ensures { result ≤ 5 }
 {
-    if check::same(name, b"track") {
+    if name == b"track".as_slice() {
         return 0;
     }
-    if check::same(name, b"flag") {
+    if name == b"flag".as_slice() {
         return 1;
     }
-    if check::same(name, b"duration") {
+    if name == b"duration".as_slice() {
         return 2;
     }
-    if check::same(name, b"number") {
+    if name == b"number".as_slice() {
         return 3;
     }
-    if check::same(name, b"group") {
+    if name == b"group".as_slice() {
         return GROUP;
     }
     5
@@ -560,10 +560,10 @@ fn tag_column(name: &[u8]) -> usize
 fn time_column(name: &[u8]) -> usize
     ensures { result ≤ 2 }
 {
-    if check::same(name, b"p") {
+    if name == b"p".as_slice() {
         return 0;
     }
-    if check::same(name, b"d") {
+    if name == b"d".as_slice() {
         return 1;
     }
     2
@@ -689,10 +689,10 @@ fn poke_frame(
 
 pub fn poke(slot: Slot, line: &[u8], w: Words, times: &mut Times, tags: &mut Tags) -> Poked {
     let name = word(line, w, 1);
-    if check::same(name, b"frame") {
+    if name == b"frame".as_slice() {
         return poke_frame(slot, line, w, times, tags);
     }
-    if check::same(name, b"track") {
+    if name == b"track".as_slice() {
         return poke_track(slot, line, w);
     }
     if w.count != 3 {
@@ -705,7 +705,7 @@ pub fn poke(slot: Slot, line: &[u8], w: Words, times: &mut Times, tags: &mut Tag
     if is_group(name) {
         return poke_group(slot, name, value);
     }
-    if check::same(name, b"mode") {
+    if name == b"mode".as_slice() {
         return poke_mode(slot, value);
     }
     poke_settings(slot, name, value)

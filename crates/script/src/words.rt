@@ -6,7 +6,7 @@ const SPACE: u8 = 32;
 const MOST: usize = 11; // as many words as a `lump` has
 
 // Where each of a line's first eleven words starts and ends, and how many words there are: twelve stands for more than eleven.
-#[derive(Drop)]
+#[derive(Clone, Copy)]
 pub struct Words {
     pub count: usize,
     pub starts: [usize; MOST],
@@ -65,11 +65,11 @@ pub fn word(line: &[u8], w: Words, k: usize) -> &[u8] {
 }
 
 pub fn begins(w: &[u8], name: &[u8]) -> bool {
-    check::same(part(w, 0, name.len()), name)
+    part(w, 0, name.len()) == name
 }
 
 // How many places are lent.
-#[derive(Drop)]
+#[derive(Clone, Copy)]
 pub enum Room {
     Is(usize),
     Not,

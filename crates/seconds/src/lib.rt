@@ -1,4 +1,6 @@
 // A time in seconds, an f64, and the same time in whole microseconds, an i64. The rule is in specs/Seconds.antt.
+#![tactic(auto)]
+
 ghost use Rattle.std.specs.Prelude.{◌≡◌, not, ◌*◌, ◌^◌, ◌≤◌, ◌<◌, nat_abs};
 ghost use Rattle.std.specs.Float.{binary64};
 ghost use Rattle.std.specs.Float.Ieee.{of_bits, to_bits, nan_bits};

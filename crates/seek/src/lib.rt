@@ -1,5 +1,7 @@
 // Where to start decoding: the frame that a track shows at an instant, the random access point from which to decode it, and how many
 // frames that takes.
+#![tactic(auto)]
+
 ghost use Rattle.std.specs.Prelude.{◌≡◌, true, ◌&&◌, ◌+◌, ◌<◌, ◌≤◌, eqb, take, get_or};
 ghost use Rattle.std.specs.Int.Signed.{lt_z};
 ghost use Rattle.buffer_state.specs.Answers.{sought, seek_result};

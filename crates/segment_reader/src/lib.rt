@@ -1,5 +1,7 @@
 // Document 02, No. 1: a reader that carries one lent segment and its place in it. It is a thin struct: each function over it takes it apart
-// and calls a covered function on the slice and the number. These few are walked by hand.
+// and calls a function on the slice and the number.
+#![tactic(auto)]
+
 ghost use Rattle.std.specs.Prelude.{◌≡◌, length, drop};
 ghost use Rattle.segments.specs.Segments.{list_segment, row_count, rows_after};
 ghost use Rattle.segment_reader.specs.Steps.{step_from, place_after};
@@ -14,7 +16,7 @@ pub struct SegmentReader<'a> {
     pub at: usize,
 }
 
-// ---- on a slice and a place, covered
+// ---- on a slice and a place
 
 // The box at a place.
 fn step_at(s: &[u8], at: usize) -> Step
@@ -44,7 +46,7 @@ fn place_after(s: &[u8], at: usize) -> usize
     }
 }
 
-// ---- on a reader, by hand
+// ---- on a reader
 
 // A reader at the segment's start.
 pub fn opened<'a>(segment: &'a [u8]) -> SegmentReader<'a>
@@ -79,7 +81,7 @@ pub fn frames<'a>(r: SegmentReader<'a>, of: SegmentTrack, list: &mut [[i64; 6]])
     segments::list_from(of, r.segment, r.at, list)
 }
 
-// The frames of a track in a segment. Its parameters are plain: whoever calls it needs no walk.
+// The frames of a track in a segment.
 pub fn list_segment(of: SegmentTrack, segment: &[u8], list: &mut [[i64; 6]]) -> Count
     ensures value { result ≡ row_count (list_segment of (length list.old) segment.now) }
     ensures list_after { list.new ≡ rows_after (list_segment of (length list.old) segment.now) list.old }

@@ -5,7 +5,7 @@ use mathlib.Core.List.{List, [], ◌++◌, append_assoc, append-nil}
 use Prim.Native.Nat.{ℕ, ◌+◌, ◌-◌}
 use native.Mathlib.Omega.{arith}
 use lib.IntN.{ℤ}
-use lib.ListN.{length, take, drop}
+use lib.ListN.{take, drop}
 use Rattle.boxes.specs.Boxes.{Mp4Box, boxes_of, step_at}
 use Rattle.boxes.specs.Folds.{folded}
 use Rattle.boxes.specs.declared.Cursor.{Cursor}
@@ -14,7 +14,7 @@ use Rattle.boxes.proofs.BoxLaws.{Opened}
 use Rattle.boxes.proofs.FoldLaws.{fold_end, fold-bad, fold-turn, fold_stays}
 use Rattle.media_times.specs.declared.Sample.{Sample}
 use Rattle.segments.specs.Listings.{Listing, malformed, listing, joined_listing, total}
-use Rattle.segments.specs.Walks.{samples_in, IsTimed, Standing, Somewhere, Further}
+use Rattle.segments.specs.Walks.{samples_in, IsTimed, Standing, Further}
 use Rattle.segments.specs.declared.SegmentTrack.{SegmentTrack}
 use Rattle.segments.specs.declared.Walk.{Walk}
 use Rattle.segments.proofs.SampleLaws.{total-both}
@@ -33,12 +33,6 @@ module _ (of : SegmentTrack) (write : Bool) (w : Walk) (lent : List (List ℤ)) 
   between_start = record { done = []; folds = refl; stands = λ before l st. rw (append-nil l) st }
 
   module _ (c : Cursor) (v : Walk) (list : List (List ℤ)) (b : Between c v list) where
-    pub between-somewhere : Somewhere of write w lent → Somewhere of write v list
-    between-somewhere x = record { before = x.before; samples = x.samples ++ b.done; standing = b.stands x.before x.samples x.standing }
-
-    pub between-length : Somewhere of write w lent → length list ≡ length lent
-    between-length x = (b.stands x.before x.samples x.standing).places ∙ sym x.standing.places
-
     -- where nothing is left, it went on by all
     pub between-end : step_at s c ≡ step.End → (before : List (List ℤ)) (l : List Sample) → Standing of write before l w lent → Further of write before l whole v list
     between-end e before l st =

@@ -1,18 +1,17 @@
 -- A walk along a run: what is done and what is left of its samples. Assumes nothing.
-use mathlib.Core.Path.{◌≡◌, refl, sym, ap, ◌∙◌, subst}
+use mathlib.Core.Path.{◌≡◌, sym, ap, ◌∙◌, subst}
 use mathlib.Core.Bool.{Bool, true}
 use mathlib.Core.List.{List, [], ◌∷◌, ◌++◌, append_assoc, append-nil}
 use Prim.Native.Nat.{ℕ, suc, ◌+◌, ◌-◌, ◌≤◌, ◌<◌}
 use native.Mathlib.Omega.{arith}
 use lib.IntN.{ℤ}
-use lib.ListN.{length}
 use Rattle.laws.proofs.BoolLaws.{split}
 use Rattle.fragments.specs.Runs.{sample_at, samples_from}
 use Rattle.fragments.specs.declared.Defaults.{Defaults}
 use Rattle.fragments.specs.declared.Run.{Run}
 use Rattle.media_times.specs.declared.Sample.{Sample}
 use Rattle.segments.specs.Listings.{total}
-use Rattle.segments.specs.Walks.{Standing, Somewhere, IsTimed}
+use Rattle.segments.specs.Walks.{Standing, IsTimed}
 use Rattle.segments.specs.declared.SegmentTrack.{SegmentTrack}
 use Rattle.segments.specs.declared.Walk.{Walk}
 use Rattle.segments.proofs.SampleLaws.{total-both}
@@ -45,23 +44,7 @@ module _ (of : SegmentTrack) (d : Defaults) (r : Run) (b : List ℕ) (n : ℕ) (
     pub timed : v.good ≡ true → v.time ≡ w.time + total done
     pub stands : (before : List (List ℤ)) (l : List Sample) → Standing of write before l w lent → Standing of write before (l ++ done) v list
 
-  pub along-start : Along 0 w lent
-  along-start = record {
-    done = [];
-    left = all;
-    all_of = refl;
-    on = λ _. let e : n ≡ n - 0 = omega arith in ap (λ k. samples_from d r b 0 k w.time) e;
-    timed = λ _. omega arith;
-    stands = λ before l st. rw (append-nil l) st;
-  }
-
   module _ (i : ℕ) (v : Walk) (list : List (List ℤ)) (a : Along i v list) where
-    pub along-somewhere : Somewhere of write w lent → Somewhere of write v list
-    along-somewhere s = record { before = s.before; samples = s.samples ++ a.done; standing = a.stands s.before s.samples s.standing }
-
-    pub along-length : Somewhere of write w lent → length list ≡ length lent
-    along-length s = (a.stands s.before s.samples s.standing).places ∙ sym s.standing.places
-
     -- one more sample
     pub along-more : (v' : Walk) (list' : List (List ℤ)) → i < n → v.good ≡ true
         → ((before : List (List ℤ)) (l : List Sample) → Standing of write before l v list → Standing of write before (l ++ (sample_at d r b i v.time ∷ [])) v' list')

@@ -4,7 +4,6 @@ use Rattle.std.specs.Prelude.{Bool, not, ◌&&◌, List, ◌++◌, map, ℕ, ℤ
 use Rattle.buffer_state.specs.Refusals.{CallResult, refused, done, refuse_if}
 use Rattle.buffer_state.specs.WellFormed.{all_of}
 use Rattle.buffer_state.specs.declared.Count.{Count}
-use Rattle.buffer_state.specs.declared.Count.TheVariants as Count
 use Rattle.buffer_state.specs.declared.Refusal.TheVariants.{FrameLimits, ShortList, Malformed}
 use Rattle.boxes.specs.Lone.{Lone, none, lone}
 use Rattle.media_times.specs.MediaTimes.{good_scale, in_limits, row_of}

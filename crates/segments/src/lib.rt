@@ -1,5 +1,7 @@
 // The recorder's segments: the frames of one track, listed as rows of numbers. The segment is walked twice: first every box and sample is
 // judged, then the rows are written.
+#![tactic(auto)]
+
 ghost use Rattle.std.specs.Prelude.{◌≡◌, true, false, cond, [], ◌∷◌, ℕ, ◌+◌, ◌*◌, ◌≤◌, ◌<◌, pos, length, drop, set};
 ghost use Rattle.std.specs.Int.Signed.{mag};
 ghost use Rattle.boxes.specs.Boxes.{boxes_of};
@@ -30,7 +32,7 @@ const TRUN: u32 = 1953658222;
 
 // The track that is read: its ID in the segment, the track number that its frames shall carry, its timescale, and what holds of a sample
 // that says nothing else.
-#[derive(Drop)]
+#[derive(Clone, Copy)]
 pub struct SegmentTrack {
     pub id: u32,
     pub track: u32,
@@ -40,7 +42,7 @@ pub struct SegmentTrack {
 
 // What is known on the way: whether everything was inside its limits so far, and if so, how many samples there were, up to the places
 // lent, whether there were more, and the decode time of the next one.
-#[derive(Drop)]
+#[derive(Clone, Copy)]
 pub struct Walk {
     pub good: bool,
     pub over: bool,

@@ -20,7 +20,6 @@ use Rattle.buffer_state.specs.Refusals.{refused}
 use Rattle.buffer_state.specs.Remove.{before_bound}
 use Rattle.buffer_state.specs.Settings.{window_end}
 use Rattle.seconds.specs.declared.Micros.{Micros}
-use Rattle.seconds.specs.declared.Micros.TheVariants as Micros
 use Rattle.seconds.specs.declared.EndMicros.{EndMicros}
 use Rattle.seconds.specs.declared.EndMicros.TheVariants as End
 

@@ -1,5 +1,7 @@
 // Creation, abort, the setters and reading the settings back. Refusal 1 comes first in each, and a refused call hands back the head that
 // it was handed. None but creation changes a frame: the others borrow the two arrays to test them.
+#![tactic(auto)]
+
 ghost use Rattle.std.specs.Prelude.{◌≡◌, cond, map, ◌≤◌, length};
 ghost use Rattle.settings.specs.Windows.{setting, open_window, accepted_change, fresh_head, group_from, with_offset, start_at, with_end, end_after};
 ghost use Rattle.std.specs.Int.Signed.{lt_z};

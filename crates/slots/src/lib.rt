@@ -1,3 +1,4 @@
+#![tactic(auto)]
 // The two buffers of a session and its saved state: their heads, and what is gathered of a batch. The stores of the three and the rows of
 // the batch are lent beside them.
 ghost use Rattle.std.specs.Prelude.{◌≡◌, length};
@@ -10,7 +11,7 @@ pub const ALL: u8 = 7; // the three values of a track, a bit each
 // A buffer's head, if there is one, and beside it what pokes may leave and neither a Head nor a row can hold: for each track which of its
 // three values are set, the double kept beside a window end that is unbounded, and a frame's group beyond 32 bits, with the frame's place
 // from 1 on, 0 where there is none.
-#[derive(Drop)]
+#[derive(Clone, Copy)]
 pub struct Slot {
     pub held: bool,
     pub head: Head,
@@ -22,7 +23,7 @@ pub struct Slot {
 
 // A batch, whose frames stand in the lines after it: the number of its own line, how many frames are still to come, how many rows are kept,
 // the fate lines that it is lent, and whether all of it could be read so far.
-#[derive(Drop)]
+#[derive(Clone, Copy)]
 pub struct Batch {
     pub line: u64,
     pub left: u32,
@@ -31,7 +32,7 @@ pub struct Batch {
     pub read: bool,
 }
 
-#[derive(Drop)]
+#[derive(Clone, Copy)]
 pub struct Session {
     pub first: Slot,
     pub second: Slot,
@@ -186,12 +187,7 @@ fn copy_tags(from: &[[u32; 5]], to: &mut [[u32; 5]])
     requires { length from.now ≡ length to.old }
     ensures { to.new ≡ from.now }
 {
-    let mut i: usize = 0;
-    while i < from.len() {
-        let tag = from[i];
-        to[i] = tag;
-        i += 1;
-    }
+    to.copy_from_slice(from);
 }
 
 // A store saved or restored.

@@ -1,3 +1,4 @@
+#![tactic(auto)]
 // The worked cases of document 01, and of document 02, No. 4, S and X as buffer_state/specs/Soundings.antt names them, run by the compiled
 // calls; what is written is compared with the file stdout.
 // A line for each call: its answer, with the fate lines or the ranges that it wrote. One store is lent to all cases, and each creates its
@@ -9,28 +10,30 @@ use buffer_state::{
     Answer, Changed, Count, Counted, Frame, Group, Head, Mode, Offered, PLACES, Refusal, Tags,
     Times,
 };
+use std::io;
+use std::io::{BufWriter, Write};
 use text::Output;
 
 // ---- what is written
 
-fn refused(why: Refusal, out: &mut Output) {
+fn refused<W: Write>(why: Refusal, out: &mut Output<W>) {
     text::put(b"refused ", out);
     text::number(buffer_state::refusal_number(why) as u64, out);
     text::put(b"\n", out);
 }
 
-fn lines(fates: &[[u32; 2]], n: usize, out: &mut Output) {
+fn lines<W: Write>(fates: &[[u32; 2]], n: usize, out: &mut Output<W>) {
     text::fates(fates, n, out);
     text::put(b"\n", out);
 }
 
-fn ranges_of(list: &[[i64; 2]], n: usize, out: &mut Output) {
+fn ranges_of<W: Write>(list: &[[i64; 2]], n: usize, out: &mut Output<W>) {
     text::ranges(list, n, out);
     text::put(b"\n", out);
 }
 
 // A stored frame: its number, when it is shown, when it is decoded.
-fn frame(f: Frame, out: &mut Output) {
+fn frame<W: Write>(f: Frame, out: &mut Output<W>) {
     text::put(b" ", out);
     text::small(f.number, out);
     text::put(b":", out);
@@ -39,7 +42,7 @@ fn frame(f: Frame, out: &mut Output) {
     text::time(f.dts, out);
 }
 
-fn place(times: &[[i64; 2]], tags: &[[u32; 5]], i: usize, out: &mut Output)
+fn place<W: Write>(times: &[[i64; 2]], tags: &[[u32; 5]], i: usize, out: &mut Output<W>)
     requires { (length times.now ≡ places) × (length tags.now ≡ places) }
 {
     if i < PLACES {
@@ -47,7 +50,7 @@ fn place(times: &[[i64; 2]], tags: &[[u32; 5]], i: usize, out: &mut Output)
     }
 }
 
-fn frames(times: &[[i64; 2]], tags: &[[u32; 5]], n: usize, out: &mut Output)
+fn frames<W: Write>(times: &[[i64; 2]], tags: &[[u32; 5]], n: usize, out: &mut Output<W>)
     requires { (length times.now ≡ places) × (length tags.now ≡ places) }
 {
     for i in 0..n {
@@ -55,20 +58,20 @@ fn frames(times: &[[i64; 2]], tags: &[[u32; 5]], n: usize, out: &mut Output)
     }
 }
 
-fn stored(h: Head, times: &Times, tags: &Tags, out: &mut Output) {
+fn stored<W: Write>(h: Head, times: &Times, tags: &Tags, out: &mut Output<W>) {
     text::put(b"stored", out);
     frames(times, tags, h.nframes, out);
     text::put(b"\n", out);
 }
 
-fn group_end(h: Head, out: &mut Output) {
+fn group_end<W: Write>(h: Head, out: &mut Output<W>) {
     let g = h.group;
     text::put(b"group end ", out);
     text::time(g.end, out);
     text::put(b"\n", out);
 }
 
-fn offset(h: Head, out: &mut Output) {
+fn offset<W: Write>(h: Head, out: &mut Output<W>) {
     let settings = h.settings;
     let o = settings.offset;
     text::put(b"offset ", out);
@@ -77,7 +80,7 @@ fn offset(h: Head, out: &mut Output) {
 }
 
 // Whether the first track's last decode timestamp, last duration and highest end are set.
-fn known(h: Head, out: &mut Output) {
+fn known<W: Write>(h: Head, out: &mut Output<W>) {
     let t = h.tracks[0];
     if t.known {
         text::put(b"the three set\n", out);
@@ -94,7 +97,7 @@ fn fresh(times: &mut Times, tags: &mut Tags) -> Head {
     c.head
 }
 
-fn counted(c: Counted, fates: &[[u32; 2]], out: &mut Output) -> Head {
+fn counted<W: Write>(c: Counted, fates: &[[u32; 2]], out: &mut Output<W>) -> Head {
     let a = c.answer;
     match a {
         Count::Done(n) => lines(fates, n, out),
@@ -103,7 +106,13 @@ fn counted(c: Counted, fates: &[[u32; 2]], out: &mut Output) -> Head {
     c.head
 }
 
-fn append(h: Head, f: Offered, times: &mut Times, tags: &mut Tags, out: &mut Output) -> Head {
+fn append<W: Write>(
+    h: Head,
+    f: Offered,
+    times: &mut Times,
+    tags: &mut Tags,
+    out: &mut Output<W>,
+) -> Head {
     let mut fates = [[0u32; 2]; PLACES];
     let c = append::append(h, f, times, tags, &mut fates);
     counted(c, &fates, out)
@@ -116,13 +125,13 @@ fn silent(h: Head, f: Offered, times: &mut Times, tags: &mut Tags) -> Head {
     c.head
 }
 
-fn remove(
+fn remove<W: Write>(
     h: Head,
     start: f64,
     end: f64,
     times: &mut Times,
     tags: &mut Tags,
-    out: &mut Output,
+    out: &mut Output<W>,
 ) -> Head {
     let mut fates = [[0u32; 2]; PLACES];
     let c = remove::remove(h, start, end, times, tags, &mut fates);
@@ -150,15 +159,29 @@ fn lasting(duration: u32) -> Offered {
 }
 
 // R of document 01, a random access point, and P, which is none: shown, then decoded.
-fn r(h: Head, pts: i64, dts: i64, times: &mut Times, tags: &mut Tags, out: &mut Output) -> Head {
+fn r<W: Write>(
+    h: Head,
+    pts: i64,
+    dts: i64,
+    times: &mut Times,
+    tags: &mut Tags,
+    out: &mut Output<W>,
+) -> Head {
     append(h, offered(true, pts, dts), times, tags, out)
 }
 
-fn p(h: Head, pts: i64, dts: i64, times: &mut Times, tags: &mut Tags, out: &mut Output) -> Head {
+fn p<W: Write>(
+    h: Head,
+    pts: i64,
+    dts: i64,
+    times: &mut Times,
+    tags: &mut Tags,
+    out: &mut Output<W>,
+) -> Head {
     append(h, offered(false, pts, dts), times, tags, out)
 }
 
-fn report(h: Head, times: &Times, tags: &Tags, out: &mut Output) {
+fn report<W: Write>(h: Head, times: &Times, tags: &Tags, out: &mut Output<W>) {
     let mut list = [[0i64; 2]; PLACES];
     match ranges::track_ranges(h, times, tags, 1, &mut list) {
         Count::Done(n) => ranges_of(&list, n, out),
@@ -166,7 +189,7 @@ fn report(h: Head, times: &Times, tags: &Tags, out: &mut Output) {
     }
 }
 
-fn changed(c: Changed, out: &mut Output) -> Head {
+fn changed<W: Write>(c: Changed, out: &mut Output<W>) -> Head {
     let a = c.answer;
     match a {
         Answer::Done => text::put(b"done\n", out),
@@ -175,51 +198,51 @@ fn changed(c: Changed, out: &mut Output) -> Head {
     c.head
 }
 
-fn abort(h: Head, times: &Times, tags: &Tags, out: &mut Output) -> Head {
+fn abort<W: Write>(h: Head, times: &Times, tags: &Tags, out: &mut Output<W>) -> Head {
     changed(settings::abort(h, times, tags), out)
 }
 
 // ---- the cases
 
 // A itself, with which B and C begin.
-fn two(times: &mut Times, tags: &mut Tags, out: &mut Output) -> Head {
+fn two<W: Write>(times: &mut Times, tags: &mut Tags, out: &mut Output<W>) -> Head {
     let h = r(fresh(times, tags), 0, 0, times, tags, out);
     p(h, 100, 100, times, tags, out)
 }
 
 // E's first four appends, with which H and I begin.
-fn four(times: &mut Times, tags: &mut Tags, out: &mut Output) -> Head {
+fn four<W: Write>(times: &mut Times, tags: &mut Tags, out: &mut Output<W>) -> Head {
     let h = p(two(times, tags, out), 200, 200, times, tags, out);
     r(h, 300, 300, times, tags, out)
 }
 
-fn case_a(times: &mut Times, tags: &mut Tags, out: &mut Output) {
+fn case_a<W: Write>(times: &mut Times, tags: &mut Tags, out: &mut Output<W>) {
     text::put(b"A\n", out);
     let h = two(times, tags, out);
     report(h, times, tags, out);
 }
 
-fn case_b(times: &mut Times, tags: &mut Tags, out: &mut Output) {
+fn case_b<W: Write>(times: &mut Times, tags: &mut Tags, out: &mut Output<W>) {
     text::put(b"B\n", out);
     let h = p(two(times, tags, out), 400, 300, times, tags, out);
     report(h, times, tags, out);
 }
 
-fn case_c(times: &mut Times, tags: &mut Tags, out: &mut Output) {
+fn case_c<W: Write>(times: &mut Times, tags: &mut Tags, out: &mut Output<W>) {
     text::put(b"C\n", out);
     let h = p(two(times, tags, out), 400, 301, times, tags, out);
     group_end(h, out);
     report(h, times, tags, out);
 }
 
-fn case_d(times: &mut Times, tags: &mut Tags, out: &mut Output) {
+fn case_d<W: Write>(times: &mut Times, tags: &mut Tags, out: &mut Output<W>) {
     text::put(b"D\n", out);
     let h = r(fresh(times, tags), 0, 0, times, tags, out);
     let k = p(h, 101, 101, times, tags, out);
     report(k, times, tags, out);
 }
 
-fn case_e(times: &mut Times, tags: &mut Tags, out: &mut Output) {
+fn case_e<W: Write>(times: &mut Times, tags: &mut Tags, out: &mut Output<W>) {
     text::put(b"E\n", out);
     let h = abort(four(times, tags, out), times, tags, out);
     let k = r(h, 100, 100, times, tags, out);
@@ -227,7 +250,7 @@ fn case_e(times: &mut Times, tags: &mut Tags, out: &mut Output) {
     report(k, times, tags, out);
 }
 
-fn case_f(times: &mut Times, tags: &mut Tags, out: &mut Output) {
+fn case_f<W: Write>(times: &mut Times, tags: &mut Tags, out: &mut Output<W>) {
     text::put(b"F\n", out);
     let h = abort(
         r(fresh(times, tags), 0, 0, times, tags, out),
@@ -241,7 +264,7 @@ fn case_f(times: &mut Times, tags: &mut Tags, out: &mut Output) {
     report(l, times, tags, out);
 }
 
-fn case_g(times: &mut Times, tags: &mut Tags, out: &mut Output) {
+fn case_g<W: Write>(times: &mut Times, tags: &mut Tags, out: &mut Output<W>) {
     text::put(b"G\n", out);
     let f = fresh(times, tags);
     let m = changed(settings::set_mode(f, times, tags, Mode::Sequence), out);
@@ -253,13 +276,13 @@ fn case_g(times: &mut Times, tags: &mut Tags, out: &mut Output) {
     report(k, times, tags, out);
 }
 
-fn case_h(times: &mut Times, tags: &mut Tags, out: &mut Output) {
+fn case_h<W: Write>(times: &mut Times, tags: &mut Tags, out: &mut Output<W>) {
     text::put(b"H\n", out);
     let h = remove(four(times, tags, out), 0.00015, 0.00025, times, tags, out);
     report(h, times, tags, out);
 }
 
-fn case_i(times: &mut Times, tags: &mut Tags, out: &mut Output) {
+fn case_i<W: Write>(times: &mut Times, tags: &mut Tags, out: &mut Output<W>) {
     text::put(b"I\n", out);
     let h = remove(four(times, tags, out), 0.00015, 0.00035, times, tags, out);
     group_end(h, out);
@@ -267,19 +290,19 @@ fn case_i(times: &mut Times, tags: &mut Tags, out: &mut Output) {
     report(h, times, tags, out);
 }
 
-fn window(times: &mut Times, tags: &mut Tags, out: &mut Output) -> Head {
+fn window<W: Write>(times: &mut Times, tags: &mut Tags, out: &mut Output<W>) -> Head {
     let f = fresh(times, tags);
     let h = changed(settings::set_window_end(f, times, tags, 0.00015), out);
     changed(settings::set_window_start(h, times, tags, 0.00005), out)
 }
 
 // A frame on a buffer with that window.
-fn in_window(at: i64, times: &mut Times, tags: &mut Tags, out: &mut Output) {
+fn in_window<W: Write>(at: i64, times: &mut Times, tags: &mut Tags, out: &mut Output<W>) {
     let h = r(window(times, tags, out), at, at, times, tags, out);
     report(h, times, tags, out);
 }
 
-fn case_j(times: &mut Times, tags: &mut Tags, out: &mut Output) {
+fn case_j<W: Write>(times: &mut Times, tags: &mut Tags, out: &mut Output<W>) {
     text::put(b"J\n", out);
     in_window(49, times, tags, out);
     in_window(50, times, tags, out);
@@ -298,7 +321,7 @@ fn full(times: &mut Times, tags: &mut Tags) -> Head {
     h
 }
 
-fn case_l(times: &mut Times, tags: &mut Tags, out: &mut Output) {
+fn case_l<W: Write>(times: &mut Times, tags: &mut Tags, out: &mut Output<W>) {
     text::put(b"L\n", out);
     let f = fresh(times, tags);
     changed(
@@ -315,7 +338,7 @@ fn case_l(times: &mut Times, tags: &mut Tags, out: &mut Output) {
 }
 
 // The example of No. 4: old frame 2 goes, and new frame 4 stays.
-fn case_s(times: &mut Times, tags: &mut Tags, out: &mut Output) {
+fn case_s<W: Write>(times: &mut Times, tags: &mut Tags, out: &mut Output<W>) {
     text::put(b"S\n", out);
     let f = r(fresh(times, tags), 0, 0, times, tags, out);
     let h = abort(p(f, 400, 150, times, tags, out), times, tags, out);
@@ -336,7 +359,7 @@ fn in_last_group(h: Head) -> Head {
 }
 
 // Whatever would begin a group after the last is refused; the last is used.
-fn case_x(times: &mut Times, tags: &mut Tags, out: &mut Output) {
+fn case_x<W: Write>(times: &mut Times, tags: &mut Tags, out: &mut Output<W>) {
     text::put(b"X\n", out);
     let f = abort(in_last_group(fresh(times, tags)), times, tags, out);
     let h = r(f, 0, 0, times, tags, out);
@@ -349,10 +372,10 @@ fn case_x(times: &mut Times, tags: &mut Tags, out: &mut Output) {
     report(m, times, tags, out);
 }
 
-fn main() {
+fn main(rt: HostRuntime) -> io::Result<()> {
     let mut times = [[0i64; 2]; PLACES];
     let mut tags = [[0u32; 5]; PLACES];
-    let mut out = text::no_output();
+    let mut out = text::no_output(BufWriter::new(rt.alloc(), io::writer(&rt))?);
     case_a(&mut times, &mut tags, &mut out);
     case_b(&mut times, &mut tags, &mut out);
     case_c(&mut times, &mut tags, &mut out);
@@ -366,5 +389,7 @@ fn main() {
     case_l(&mut times, &mut tags, &mut out);
     case_s(&mut times, &mut tags, &mut out);
     case_x(&mut times, &mut tags, &mut out);
-    text::tell_failed(b"soundings", &out);
+    text::flush(&mut out);
+    text::tell_failed(b"soundings", &out, &mut rt.stderr());
+    Ok(())
 }

@@ -1,6 +1,8 @@
 // Frames taken out of a lent store in place, with their fate lines. What an append overlaps and what a removal removes differ in the
 // stretches of time and in the cause. Frames of one group, as they usually are, go in one loop; of several, the causes are found first,
 // in an array of their own, and then the frames that have one are taken out.
+#![tactic(auto)]
+
 ghost use Rattle.std.specs.Prelude.{◌≡◌, true, cond, not, ◌≤◌, length, take};
 ghost use Rattle.seconds.specs.Seconds.{at};
 ghost use Rattle.buffer_state.specs.declared.Frame.{Frame};
@@ -17,14 +19,14 @@ ghost use Rattle.taking.specs.Taking.{on_track, in_span, in_spans, taken_marks, 
 use buffer_state::{Frame, PLACES, Track};
 
 // The presentation times from the start up to but not including the end.
-#[derive(Drop)]
+#[derive(Clone, Copy)]
 pub struct Span {
     pub start: i64,
     pub end: i64,
 }
 
 // An instant in microseconds, or none, which is kept as zero.
-#[derive(Drop)]
+#[derive(Clone, Copy)]
 pub struct Instant {
     pub set: bool,
     pub micros: i64,
@@ -103,7 +105,8 @@ pub fn mark(
     ensures marks { marked_by (take n (frames_of times.now tags.now)) result ≡ taken_marks spans cause (take n (frames_of times.now tags.now)) }
     ensures before { NoneBefore first result }
 {
-    let slots = groups::slots_of(tags, first, n);
+    let mut slots = [0usize; PLACES];
+    groups::fill_slots(tags, first, n, &mut slots);
     let mut on = [false; PLACES];
     let mut causes = [0u32; PLACES];
     let mut i = first;

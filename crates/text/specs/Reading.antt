@@ -1,8 +1,8 @@
 -- What a word of text stands for, as a list of its bytes.
-use Rattle.std.specs.Prelude.{Bool, true, false, cond, List, [], ◌∷◌, ℕ, zero, suc, ◌+◌, ◌-◌, ◌*◌, ◌^◌, ltb, leb, eqb, length, take, drop, get_or, pos, negsuc, Float}
+use Rattle.std.specs.Prelude.{Bool, true, false, cond, List, [], ◌∷◌, ℕ, zero, suc, ◌+◌, ◌-◌, ◌*◌, ◌^◌, ltb, leb, eqb, ◌==◌, length, take, drop, get_or, pos, negsuc, Float}
 use Rattle.std.specs.Float.{binary64}
 use Rattle.std.specs.Float.Ieee.{of_int, div}
-use Rattle.bytes.specs.Bytes.{index_of}
+use Rattle.std.specs.List.{position_or_len}
 use Rattle.text.specs.declared.read.Natural.{Natural}
 use Rattle.text.specs.declared.read.Natural.TheVariants as N
 use Rattle.text.specs.declared.read.Whole.{Whole}
@@ -79,6 +79,10 @@ more_digits N.Not w = N.Not
 -- a number, the point, and one digit or more
 abbrev pub fraction_in : Natural → List ℕ → Double
 fraction_in n f = cond (eqb (length f) 0) D.Not (quotient_in (more_digits n f) (length f))
+
+-- the place of the first byte b of a word, its length where there is none
+abbrev pub index_of : ℕ → List ℕ → ℕ
+index_of b w = position_or_len (λ x. x == b) w
 
 -- a word with the point at a place, or with none where that is its length
 abbrev pub decimal_at : ℕ → List ℕ → Double

@@ -1,9 +1,10 @@
 // Text written to standard error. Where such a write fails, nothing more can be said.
+use std::io::Write;
 
-pub fn put(b: &[u8]) {
-    io::write_all(libc::STDERR_FILENO, b);
+pub fn put(b: &[u8], to: &mut impl Write) {
+    let _ = to.write_all(b);
 }
 
-pub fn number(n: u64) {
-    io::print_decimal(libc::STDERR_FILENO, n);
+pub fn number(n: u64, to: &mut impl Write) {
+    let _ = write!(to, "{n}");
 }

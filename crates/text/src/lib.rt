@@ -1,42 +1,62 @@
+#![tactic(auto)]
 // Numbers, doubles, bytes, fate lines and ranges as text: written to standard output here, to standard error in errors.rt, read from a word in
 // read.rt.
 pub mod errors;
 pub mod read;
 
-// What a program keeps of its run, lent to every function that writes. The places other than FAILED are the program's own.
-pub type Output = [u64; 4];
+use std::io;
+use std::io::Write;
 
-const FAILED: usize = 0; // 1 where a write to standard output failed, else 0
+// What a program keeps of its run, lent to every function that writes: the writer to standard output, whether a write to it failed, and notes
+// that are the program's own.
+#[derive(Drop)]
+pub struct Output<W: Write> {
+    pub to: W,
+    pub failed: bool,
+    pub notes: [u64; 4],
+}
 
-pub fn no_output() -> Output {
-    [0; 4]
+pub fn no_output<W: Write>(to: W) -> Output<W> {
+    Output {
+        to,
+        failed: false,
+        notes: [0; 4],
+    }
 }
 
 // What a write to standard output answered.
-fn written(whole: bool, out: &mut Output) {
-    if !whole {
-        out[FAILED] = 1;
+fn written<W: Write>(answer: io::Result<()>, out: &mut Output<W>) {
+    if answer.is_err() {
+        out.failed = true;
     }
 }
 
-// At the end of the program of this name.
-pub fn tell_failed(program: &[u8], out: &Output) {
-    if out[FAILED] == 0 {
+// What is written reaches standard output here at the latest.
+pub fn flush<W: Write>(out: &mut Output<W>) {
+    let answer = out.to.flush();
+    written(answer, out);
+}
+
+// At the end of the program of this name, told on standard error.
+pub fn tell_failed<W: Write>(program: &[u8], out: &Output<W>, error: &mut impl Write) {
+    if !out.failed {
         return;
     }
-    errors::put(program);
-    errors::put(b": standard output could not be written\n");
+    errors::put(program, error);
+    errors::put(b": standard output could not be written\n", error);
 }
 
-pub fn put(b: &[u8], out: &mut Output) {
-    written(io::write_all(libc::STDOUT_FILENO, b), out);
+pub fn put<W: Write>(b: &[u8], out: &mut Output<W>) {
+    let answer = out.to.write_all(b);
+    written(answer, out);
 }
 
-pub fn number(n: u64, out: &mut Output) {
-    written(io::print_decimal(libc::STDOUT_FILENO, n), out);
+pub fn number<W: Write>(n: u64, out: &mut Output<W>) {
+    let answer = write!(out.to, "{n}");
+    written(answer, out);
 }
 
-pub fn small(n: u32, out: &mut Output) {
+pub fn small<W: Write>(n: u32, out: &mut Output<W>) {
     number(n as u64, out);
 }
 
@@ -49,31 +69,33 @@ fn magnitude(z: i64) -> u64 {
     less as u64 + 1
 }
 
-pub fn time(z: i64, out: &mut Output) {
+pub fn time<W: Write>(z: i64, out: &mut Output<W>) {
     if z < 0 {
         put(b"-", out);
     }
     number(magnitude(z), out);
 }
 
-pub fn double(x: f64, out: &mut Output) {
+pub fn double<W: Write>(x: f64, out: &mut Output<W>) {
     put(b"0x", out);
     let bits = seconds::bits_of(x);
-    written(io::print_hex(libc::STDOUT_FILENO, bits, 16), out);
+    let answer = write!(out.to, "{bits:016x}");
+    written(answer, out);
 }
 
-fn byte(b: u8, out: &mut Output) {
-    written(io::print_hex(libc::STDOUT_FILENO, b as u64, 2), out);
+fn byte<W: Write>(b: u8, out: &mut Output<W>) {
+    let answer = write!(out.to, "{b:02x}");
+    written(answer, out);
 }
 
-fn byte_at(list: &[u8], i: usize, out: &mut Output) {
+fn byte_at<W: Write>(list: &[u8], i: usize, out: &mut Output<W>) {
     if i < list.len() {
         byte(list[i], out);
     }
 }
 
 // Two digits for each byte; no bytes are `-`.
-pub fn bytes(list: &[u8], out: &mut Output) {
+pub fn bytes<W: Write>(list: &[u8], out: &mut Output<W>) {
     if list.len() == 0 {
         put(b"-", out);
     }
@@ -82,7 +104,7 @@ pub fn bytes(list: &[u8], out: &mut Output) {
     }
 }
 
-fn fate(list: &[[u32; 2]], i: usize, out: &mut Output) {
+fn fate<W: Write>(list: &[[u32; 2]], i: usize, out: &mut Output<W>) {
     if i < list.len() {
         let l = list[i];
         put(b" (", out);
@@ -94,14 +116,14 @@ fn fate(list: &[[u32; 2]], i: usize, out: &mut Output) {
 }
 
 // The first n fate lines.
-pub fn fates(list: &[[u32; 2]], n: usize, out: &mut Output) {
+pub fn fates<W: Write>(list: &[[u32; 2]], n: usize, out: &mut Output<W>) {
     put(b"fates", out);
     for i in 0..n {
         fate(list, i, out);
     }
 }
 
-fn range(list: &[[i64; 2]], i: usize, out: &mut Output) {
+fn range<W: Write>(list: &[[i64; 2]], i: usize, out: &mut Output<W>) {
     if i < list.len() {
         let r = list[i];
         put(b" [", out);
@@ -113,7 +135,7 @@ fn range(list: &[[i64; 2]], i: usize, out: &mut Output) {
 }
 
 // The first n ranges.
-pub fn ranges(list: &[[i64; 2]], n: usize, out: &mut Output) {
+pub fn ranges<W: Write>(list: &[[i64; 2]], n: usize, out: &mut Output<W>) {
     put(b"ranges", out);
     for i in 0..n {
         range(list, i, out);

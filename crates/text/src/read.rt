@@ -1,6 +1,7 @@
 // Numbers and doubles read from a word. specs/Reading.antt says what a word stands for.
-ghost use Rattle.std.specs.Prelude.{◌≡◌, ◌≤◌, ◌<◌};
-ghost use Rattle.text.specs.Reading.{digit_of, longer_by, digits_from, natural_of, positive_of, negative_of, sign_of, signed_in, whole_of, power_of, quotient_of, quotient_in, more_digits, fraction_in, decimal_of};
+ghost use Rattle.std.specs.Prelude.{◌≡◌, ◌≤◌, ◌<◌, ◌==◌, length};
+ghost use Rattle.std.specs.List.{position};
+ghost use Rattle.text.specs.Reading.{digit_of, longer_by, digits_from, natural_of, positive_of, negative_of, sign_of, signed_in, whole_of, power_of, quotient_of, quotient_in, more_digits, fraction_in, index_of, decimal_of};
 
 const PAST: u64 = 0x1000_0000_0000_0000; // 2^60, from which another digit may leave 64 bits
 
@@ -41,14 +42,14 @@ const POWERS: [f64; 23] = [
     10000000000000000000000.0,
 ];
 
-#[derive(Drop)]
+#[derive(Clone, Copy)]
 pub enum Natural {
     Is(u64),
     Not,
 }
 
 // A whole number: in 64 bits with a sign, beyond them, or no number at all.
-#[derive(Drop)]
+#[derive(Clone, Copy)]
 pub enum Whole {
     Is(i64),
     Above,
@@ -57,7 +58,7 @@ pub enum Whole {
 }
 
 // The same in 32 bits without a sign.
-#[derive(Drop)]
+#[derive(Clone, Copy)]
 pub enum Small {
     Is(u32),
     Above,
@@ -65,7 +66,7 @@ pub enum Small {
     Not,
 }
 
-#[derive(Drop)]
+#[derive(Clone, Copy)]
 pub enum Double {
     Is(f64),
     Not,
@@ -211,6 +212,25 @@ pub fn as_small(w: &[u8]) -> Small {
     }
 }
 
+// ---- places
+
+fn first(w: &[u8], b: u8) -> Option<usize>
+    ensures { result ≡ position (λ x. x == b) w.now }
+{
+    w.iter().position(|x| *x == b)
+}
+
+// The place of the first byte b, the length where there is none.
+pub fn find(w: &[u8], b: u8) -> usize
+    ensures bound { result ≤ length w.now }
+    ensures value { result ≡ index_of b w.now }
+{
+    match first(w, b) {
+        Some(k) => k,
+        None => w.len(),
+    }
+}
+
 // ---- doubles
 
 fn power(k: usize) -> f64
@@ -266,9 +286,8 @@ fn fraction(n: Natural, f: &[u8]) -> Double
 fn decimal(w: &[u8]) -> Double
     ensures { result ≡ decimal_of w.now }
 {
-    let n = w.len();
-    let dot = bytes::scan::find(w, 0, n, POINT);
-    if n <= dot {
+    let dot = find(w, POINT);
+    if w.len() <= dot {
         return over(as_natural(w), 0);
     }
     let start = dot + 1;
@@ -295,13 +314,13 @@ fn pattern(w: &[u8]) -> Double {
 
 // A time in seconds, as the protocol writes it.
 pub fn as_double(w: &[u8]) -> Double {
-    if check::same(w, b"inf") {
+    if w == b"inf".as_slice() {
         return Double::Is(seconds::of_bits(INFINITY));
     }
-    if check::same(w, b"-inf") {
+    if w == b"-inf".as_slice() {
         return negated(Double::Is(seconds::of_bits(INFINITY)));
     }
-    if check::same(w, b"nan") {
+    if w == b"nan".as_slice() {
         return Double::Is(0.0 / 0.0);
     }
     if w.len() < 2 {
@@ -310,7 +329,7 @@ pub fn as_double(w: &[u8]) -> Double {
     if w[0] == MINUS {
         return negated(decimal(&w[1..]));
     }
-    if check::same(&w[0..2], b"0x") {
+    if &w[0..2] == b"0x".as_slice() {
         return pattern(&w[2..]);
     }
     decimal(w)

@@ -1,4 +1,6 @@
 // The tracks of a buffer, all of them at once or one: what append, remove and abort do to them.
+#![tactic(auto)]
+
 ghost use Rattle.std.specs.Prelude.{◌≡◌, cond, true, map, ◌++◌, ◌≤◌, ◌<◌, take, drop};
 ghost use Rattle.buffer_state.specs.Buffer.{restarted_track, with_need, is_sequence, start_at_end, with_end, next_group};
 ghost use Rattle.buffer_state.specs.Limits.{last_group};

@@ -1,4 +1,6 @@
 // The well-formed test on a head and two lent arrays, for whatever they hold: garbage in any field is answered, never read past or added up.
+#![tactic(auto)]
+
 ghost use Rattle.std.specs.Prelude.{◌≡◌, true, false, cond, ◌&&◌, ◌≤◌, ◌-◌, eqb, ltb, pos, length, take, drop};
 ghost use Rattle.std.specs.Int.Signed.{le_z};
 ghost use Rattle.seconds.specs.Seconds.{same_int};

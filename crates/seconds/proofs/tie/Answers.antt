@@ -1,0 +1,11 @@
+use Rattle.std.proofs.Common.{sym, ap, Bool}
+use Rattle.seconds.specs.Seconds.{tie_of}
+use Rattle.seconds.proofs.tie.Goals as goal
+
+pub returns-then-negative : goal.returns-then-negative
+unfolding tie_of
+returns-then-negative c = sym (ap (λ (s : Bool). tie_of s c.args.whole) c.if-negative.true)
+
+pub returns : goal.returns
+unfolding tie_of
+returns c = sym (ap (λ (s : Bool). tie_of s c.args.whole) c.if-negative.false)
