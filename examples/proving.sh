@@ -22,7 +22,7 @@ absolute() { # NAME
 crates_to_prove() { # CRATE
     awk -F: -v crate="$1" '
         /^#/ { next }
-        { below[$1] = $2 }
+        { sub(/ .*/, "", $1); below[$1] = $2 }
         END {
             n = split(below[crate], names, " ")
             for (i = 1; i <= n; i++) count += names[i] in below
@@ -35,23 +35,19 @@ tell_proved() { # NAME
     tell "$proved of $count proved: $1"
 }
 
-# Counts the crate that a line of the prover is about, and tells of it where something was done.
+# Tells of the crate whose check a line of the prover ends. The prover names it a line or two before, and of a crate that is unchanged since
+# it was last proved it says nothing.
 tell_of() { # LINE
-    name=${1#rt: } name=${name%% *}
     case $1 in
-    'rt: '*' proved (unchanged since it was last proved)') proved=$((proved + 1)) unchanged=$((unchanged + 1)) ;;
-    'rt: '*' proved ('*) tell_proved "$name (${1##*\(}" ;;
-    'rt: target/staticlib/'*) tell_proved "$name" ;;
-    'rt: '*' NOT PROVED: its dependency '*) ;;
-    'rt: '*' NOT PROVED'*) tell "NOT proved: $name; target/log/$name.out says why" ;;
-    'rt: '*' proved, and its run FAILED '*) tell "$name is proved, and did not write what crates/$name/stdout has" ;;
+    'crate '*': modules '*) name=${1#crate } name=${name%%: *} ;;
+    'logic=proved '*) tell_proved "$name" ;;
+    'logic=not-proved'*) tell "NOT proved: ${name-a crate}" ;;
     esac
 }
 
 progress() {
-    proved=0 unchanged=0
+    proved=0
     while IFS= read -r line; do tell_of "$line"; done
-    tell "$proved of $count crates are proved, $unchanged of them by an earlier run"
 }
 
 give_up() {
@@ -60,13 +56,16 @@ give_up() {
     exit 2
 }
 
-# prove CRATE COMMAND: by `rt COMMAND CRATE`, whose status goes round the pipe on a descriptor of its own.
+# prove CRATE COMMAND..: by the command, whose status goes round the pipe on a descriptor of its own.
 prove() {
     command -v rt > /dev/null || stop "the Rattle toolchain is needed, and there is no rt"
     mkdir -p target || stop "no folder target can be made"
-    log=target/prove-$1.log
-    count=$(crates_to_prove "$1")
-    tell "proving $1, $count crates: some ten minutes on two cores from nothing, seconds where all is proved already"
-    status=$({ { rt "$2" "$1" 2>&1; echo $? >&3; } | tee "$log" | progress; } 3>&1)
+    crate=$1
+    shift
+    log=target/prove-$crate.log
+    count=$(crates_to_prove "$crate")
+    tell "proving $crate, $count crates: some ten minutes on two cores from nothing, seconds where all is proved already"
+    status=$({ { "$@" 2>&1; echo $? >&3; } | tee "$log" | progress; } 3>&1)
     [ "$status" = 0 ] || give_up
+    tell "$crate is proved, and all that it stands on"
 }

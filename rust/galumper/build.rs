@@ -1,4 +1,4 @@
-//! Links the static library that `rt staticlib galumper` writes: from the folder that the variable
+//! Links the static library that `.ci/archive` writes: from the folder that the variable
 //! `GALUMPER_LIB_DIR` names, else from `target/staticlib` of the repository.
 
 use std::env;
@@ -14,7 +14,7 @@ fn main() {
     println!("cargo::rerun-if-changed={}", archive.display());
     if !archive.is_file() {
         println!(
-            "cargo::error=there is no {}: run `rt staticlib galumper` in the repository, or let \
+            "cargo::error=there is no {}: run `.ci/archive` in the repository, or let \
              {VARIABLE} name the folder that has libgalumper.a",
             archive.display()
         );

@@ -23,8 +23,7 @@ use lumps::LumpReader;
 use script::words;
 use script::words::Words;
 use slots::{Batch, Session};
-use std::io;
-use std::io::{BufWriter, Read, Write};
+use std::io::{Read, Write};
 use text::Output;
 use unread::Text;
 
@@ -358,7 +357,6 @@ fn run<W: Write>(
         }
         let s = standing.session;
         kept = unread::kept(kept, s.batch, said, out);
-        text::flush(out); // an answer is written before the next line is awaited
         if r.ended {
             batches::cut_short(s.batch, out);
             return kept;
@@ -367,7 +365,7 @@ fn run<W: Write>(
     kept
 }
 
-fn main(rt: HostRuntime) -> io::Result<()> {
+fn main(rt: HostRuntime) {
     let mut from = rt.reader();
     let mut chunk = [0u8; 4096];
     let mut line = [0u8; input::ROOM];
@@ -379,7 +377,7 @@ fn main(rt: HostRuntime) -> io::Result<()> {
     let mut second_tags = [[0u32; 5]; PLACES];
     let mut saved_times = [[0i64; 2]; PLACES];
     let mut saved_tags = [[0u32; 5]; PLACES];
-    let mut out = text::no_output(BufWriter::new(rt.alloc(), io::writer(&rt))?);
+    let mut out = text::no_output(rt.stdout());
     let kept = run(
         &mut from,
         &mut chunk,
@@ -394,9 +392,7 @@ fn main(rt: HostRuntime) -> io::Result<()> {
         &mut saved_tags,
         &mut out,
     );
-    text::flush(&mut out);
     let mut error = rt.stderr();
     unread::tell(kept, &out, &mut error);
     text::tell_failed(b"replay", &out, &mut error);
-    Ok(())
 }

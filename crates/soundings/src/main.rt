@@ -10,8 +10,7 @@ use buffer_state::{
     Answer, Changed, Count, Counted, Frame, Group, Head, Mode, Offered, PLACES, Refusal, Tags,
     Times,
 };
-use std::io;
-use std::io::{BufWriter, Write};
+use std::io::Write;
 use text::Output;
 
 // ---- what is written
@@ -372,10 +371,10 @@ fn case_x<W: Write>(times: &mut Times, tags: &mut Tags, out: &mut Output<W>) {
     report(m, times, tags, out);
 }
 
-fn main(rt: HostRuntime) -> io::Result<()> {
+fn main(rt: HostRuntime) {
     let mut times = [[0i64; 2]; PLACES];
     let mut tags = [[0u32; 5]; PLACES];
-    let mut out = text::no_output(BufWriter::new(rt.alloc(), io::writer(&rt))?);
+    let mut out = text::no_output(rt.stdout());
     case_a(&mut times, &mut tags, &mut out);
     case_b(&mut times, &mut tags, &mut out);
     case_c(&mut times, &mut tags, &mut out);
@@ -389,7 +388,5 @@ fn main(rt: HostRuntime) -> io::Result<()> {
     case_l(&mut times, &mut tags, &mut out);
     case_s(&mut times, &mut tags, &mut out);
     case_x(&mut times, &mut tags, &mut out);
-    text::flush(&mut out);
     text::tell_failed(b"soundings", &out, &mut rt.stderr());
-    Ok(())
 }

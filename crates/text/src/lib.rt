@@ -31,12 +31,6 @@ fn written<W: Write>(answer: io::Result<()>, out: &mut Output<W>) {
     }
 }
 
-// What is written reaches standard output here at the latest.
-pub fn flush<W: Write>(out: &mut Output<W>) {
-    let answer = out.to.flush();
-    written(answer, out);
-}
-
 // At the end of the program of this name, told on standard error.
 pub fn tell_failed<W: Write>(program: &[u8], out: &Output<W>, error: &mut impl Write) {
     if !out.failed {

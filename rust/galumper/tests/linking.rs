@@ -33,7 +33,7 @@ fn a_folder_without_the_library() {
     let output = console(&folder, &folder.join("target"));
     let said = String::from_utf8_lossy(&output.stderr);
     assert!(!output.status.success());
-    assert!(said.contains("`rt staticlib galumper`"), "{said}");
+    assert!(said.contains("`.ci/archive`"), "{said}");
     assert!(said.contains("GALUMPER_LIB_DIR"), "{said}");
 }
 
