@@ -7,13 +7,13 @@ ghost use Rattle.boxes.specs.Boxes.{be4, be8, sized_of, front_of, step_at, boxes
 ghost use Rattle.boxes.specs.Lone.{lone_in, part_of, held_by, Within};
 
 // A place in a slice.
-#[derive(Drop)]
+#[derive(Clone, Copy)]
 pub struct Cursor {
     pub at: usize,
 }
 
 // A box's type, and its header's length and its own size, in bytes.
-#[derive(Drop)]
+#[derive(Clone, Copy)]
 pub struct Header {
     pub kind: u32,
     pub length: usize,
@@ -21,7 +21,7 @@ pub struct Header {
 }
 
 // What stands at the front of a slice: nothing, no box, or a box.
-#[derive(Drop)]
+#[derive(Clone, Copy)]
 pub enum Front {
     End,
     Bad,
@@ -29,7 +29,7 @@ pub enum Front {
 }
 
 // What stands at a place: the same, with the places where the body begins and ends, and the place after the box.
-#[derive(Drop)]
+#[derive(Clone, Copy)]
 pub enum Step {
     End,
     Bad,
@@ -42,7 +42,7 @@ pub enum Step {
 }
 
 // A part of a slice, where there is one.
-#[derive(Drop)]
+#[derive(Clone, Copy)]
 pub enum Part {
     None,
     Is { start: usize, end: usize },

@@ -147,20 +147,20 @@ pub fn refusal_number(why: Refusal) -> u32
 
 // What creation, abort and the setters answer, and the head that they hand back: after a refusal the one that they were handed, or
 // zeros where a creation was refused.
-#[derive(Drop)]
+#[derive(Clone, Copy)]
 pub enum Answer {
     Done,
     Refused(Refusal),
 }
 
-#[derive(Drop)]
+#[derive(Clone, Copy)]
 pub struct Changed {
     pub answer: Answer,
     pub head: Head,
 }
 
 // What reading the settings answers: the doubles kept, bit for bit, and whether there is a window end.
-#[derive(Drop)]
+#[derive(Clone, Copy)]
 pub enum Read {
     Bounded { offset: f64, start: f64, end: f64 },
     Unbounded { offset: f64, start: f64 },
@@ -168,13 +168,13 @@ pub enum Read {
 }
 
 // What append, remove and the range reports answer: how many fate lines or ranges they wrote.
-#[derive(Drop)]
+#[derive(Clone, Copy)]
 pub enum Count {
     Done(usize),
     Refused(Refusal),
 }
 
-#[derive(Drop)]
+#[derive(Clone, Copy)]
 pub struct Counted {
     pub answer: Count,
     pub head: Head,
@@ -208,7 +208,7 @@ pub fn stop_number(stop: Stop) -> u32
 }
 
 // What a batch answers: how many frames were accepted, how many fate lines were written, and what stopped it.
-#[derive(Drop)]
+#[derive(Clone, Copy)]
 pub enum Accepted {
     Done {
         frames: usize,
@@ -218,7 +218,7 @@ pub enum Accepted {
     Refused(Refusal),
 }
 
-#[derive(Drop)]
+#[derive(Clone, Copy)]
 pub struct Batched {
     pub answer: Accepted,
     pub head: Head,
@@ -226,7 +226,7 @@ pub struct Batched {
 
 // What a seek answers: the number of the frame that covers the instant, the number of the random access point from which to decode, and
 // how many frames to decode from that one to the first, both counted.
-#[derive(Drop)]
+#[derive(Clone, Copy)]
 pub enum Sought {
     Found {
         target: u32,

@@ -33,7 +33,7 @@ pub fn feed<'a>(
 }
 
 // Where such bytes start in what they are a part of, and how many they are: for a program to which no slice can be handed back.
-#[derive(Drop)]
+#[derive(Clone, Copy)]
 pub struct Part {
     pub start: usize,
     pub length: usize,

@@ -32,19 +32,19 @@ pub struct Run {
     pub count: u32,
 }
 
-#[derive(Drop)]
+#[derive(Clone, Copy)]
 pub enum ReadHeader {
     Bad,
     Is(Header),
 }
 
-#[derive(Drop)]
+#[derive(Clone, Copy)]
 pub enum ReadTime {
     Bad,
     At(u64),
 }
 
-#[derive(Drop)]
+#[derive(Clone, Copy)]
 pub enum ReadRun {
     Bad,
     Is(Run),

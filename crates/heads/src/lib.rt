@@ -18,7 +18,7 @@ use buffer_state::{
 };
 
 // A pass: the head after step 1, the frame after step 2, and whether they are inside the result limits.
-#[derive(Drop)]
+#[derive(Clone, Copy)]
 struct Passed {
     head: Head,
     frame: Offered,
@@ -241,7 +241,7 @@ fn breaks(h: Head, g: Offered) -> bool
 }
 
 // A frame after step 2, and whether its first pass is the last and leaves the head as it is.
-#[derive(Drop)]
+#[derive(Clone, Copy)]
 pub struct Steady {
     pub ok: bool,
     pub frame: Offered,
@@ -272,7 +272,7 @@ pub fn steady_frame(h: Head, f: Offered) -> Steady
 }
 
 // What steps 1 to 3 come to: the head and the frame that step 4 goes on from, unless refusal 7 or 9 stops the frame.
-#[derive(Drop)]
+#[derive(Clone, Copy)]
 pub struct Decided {
     pub head: Head,
     pub frame: Offered,

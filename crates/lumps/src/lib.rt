@@ -53,7 +53,7 @@ pub struct LumpReader {
 }
 
 // What the bytes met of a header begin.
-#[derive(Drop)]
+#[derive(Clone, Copy)]
 pub enum Begun {
     More,
     Stuck,
@@ -70,14 +70,14 @@ pub struct Scan {
 }
 
 // Whether a lump is taken, and if so where it leads to.
-#[derive(Drop)]
+#[derive(Clone, Copy)]
 pub struct Tried {
     pub answer: Answer,
     pub scan: Scan,
 }
 
 // What a call answers, with the reader that it hands back.
-#[derive(Drop)]
+#[derive(Clone, Copy)]
 pub struct Lumped {
     pub answer: Count,
     pub reader: LumpReader,

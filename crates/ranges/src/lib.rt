@@ -197,7 +197,7 @@ fn stretch_at(times: &[[i64; 2]], tags: &[[u32; 5]], keys: &[u64], order: Order,
 
 // How many frames a walk took and how many ranges it opened, one of them too many where it left early; and whether no frame that it
 // took starts before the range that was open.
-#[derive(Drop)]
+#[derive(Clone, Copy)]
 struct Walk {
     taken: usize,
     ranges: usize,

@@ -54,7 +54,7 @@ fn is_before(z: i64, e: Instant) -> bool
 // ---- the stretch of time
 
 // The start and the end of a removal, or why there is none.
-#[derive(Drop)]
+#[derive(Clone, Copy)]
 enum Stretch {
     Over(i64, Instant),
     Refused(Refusal),

@@ -42,7 +42,7 @@ fn untouched(kind: u32, count: usize, fates: &[[u32; 2]], list: &[[i64; 2]]) -> 
 // What a call that was not refused answers.
 fn done<W: Write>(
     kind: u32,
-    step: &Step,
+    step: Step,
     fates: &[[u32; 2]],
     list: &[[i64; 2]],
     out: &mut Output<W>,
@@ -76,7 +76,7 @@ fn done<W: Write>(
 
 fn told<W: Write>(
     kind: u32,
-    step: &Step,
+    step: Step,
     fates: &[[u32; 2]],
     list: &[[i64; 2]],
     out: &mut Output<W>,
@@ -143,7 +143,7 @@ fn on_lists<W: Write>(
         return slot;
     }
     let step = made(slots::handed(slot), c, frames, times, tags, fates, list);
-    told(c.kind, &step, fates, list, out);
+    told(c.kind, step, fates, list, out);
     if step.refusal != 0 {
         return slot;
     }

@@ -14,13 +14,13 @@ const INFINITY: u64 = 0x7ff0_0000_0000_0000; // the bits of plus infinity
 
 const NAN: u64 = 0x7ff8_0000_0000_0000; // of the bits of a NaN, the ones that are written
 
-#[derive(Drop)]
+#[derive(Clone, Copy)]
 pub enum Micros {
     At(i64),
     Refused,
 }
 
-#[derive(Drop)]
+#[derive(Clone, Copy)]
 pub enum EndMicros {
     Unbounded,
     At(i64),

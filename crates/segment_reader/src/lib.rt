@@ -10,7 +10,7 @@ use boxes::{Cursor, Step};
 use buffer_state::Count;
 use segments::SegmentTrack;
 
-#[derive(Drop)]
+#[derive(Clone, Copy)]
 pub struct SegmentReader<'a> {
     pub segment: &'a [u8],
     pub at: usize,

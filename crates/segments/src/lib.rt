@@ -50,7 +50,7 @@ pub struct Walk {
     pub time: u64,
 }
 
-#[derive(Drop)]
+#[derive(Clone, Copy)]
 pub enum Walked {
     Malformed,
     Upto(Walk),

@@ -33,14 +33,14 @@ pub struct Instant {
 }
 
 // How many frames are left, and how many lines were written.
-#[derive(Drop)]
+#[derive(Clone, Copy)]
 struct Closed {
     left: usize,
     lines: usize,
 }
 
 // The same, and where the first frame that went and ended its track was shown.
-#[derive(Drop)]
+#[derive(Clone, Copy)]
 pub struct Taken {
     pub left: usize,
     pub lines: usize,

@@ -274,7 +274,7 @@ fn row_before(time: [i64; 2], tag: [u32; 5], next: [i64; 2], mark: [u32; 5]) -> 
 // ---- the rows in use
 
 // What one pass over the rows in use finds.
-#[derive(Drop)]
+#[derive(Clone, Copy)]
 struct Examined {
     good: bool,
     rising: bool, // their numbers rise, so no two are equal
