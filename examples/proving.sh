@@ -18,6 +18,11 @@ absolute() { # NAME
     esac
 }
 
+# Whether what was built from crates is there, and no source, definition or proof is newer.
+is_built() { # FILE
+    [ -f "$1" ] && [ -z "$(find crates.txt crates/*/src crates/*/specs crates/*/proofs -newer "$1")" ]
+}
+
 # How many crates stand below a crate and are not the toolchain's, and itself.
 crates_to_prove() { # CRATE
     awk -F: -v crate="$1" '
