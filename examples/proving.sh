@@ -69,7 +69,7 @@ prove() {
     shift
     log=target/prove-$crate.log
     count=$(crates_to_prove "$crate")
-    tell "proving $crate, $count crates: some ten minutes on two cores from nothing, seconds where all is proved already"
+    tell "proving $crate, $count crates: some ten minutes from nothing, seconds where all is proved already"
     status=$({ { "$@" 2>&1; echo $? >&3; } | tee "$log" | progress; } 3>&1)
     [ "$status" = 0 ] || give_up
     tell "$crate is proved, and all that it stands on"
