@@ -1,5 +1,5 @@
--- A history of exported calls on one buffer, each step what the exported function's own contract says of that call, and the claim of
--- demand 3 about every such history.
+-- A history of exported calls on one buffer, each step what the contract of that call in galumper says, which is its export's
+-- (crates/galumper_c/proofs/Exports.antt), and the claim of demand 3 about every such history.
 use Rattle.std.specs.Prelude.{◌≡◌, List, [], ◌∷◌, map, ℕ, T, ℤ, Float}
 use contract.Lifetimes.{Lfts}
 use denote.Ref.{Bor, MutBor, at_last}

@@ -1,5 +1,5 @@
 // The library for programs in C, C++ and Rust: each exported call is the function of the same name in the crate `galumper`, with its promises
-// word for word, which proofs/Exports.antt holds. The static library is a crate of its own, since a crate is a library or a static library, and
+// word for word, as proofs/Exports.antt proves. The static library is a crate of its own, since a crate is a library or a static library, and
 // nothing can depend on the second.
 #![tactic(auto)]
 
