@@ -1,5 +1,7 @@
 -- The claim of demand 3, for every history; that every list of calls has a history; that no call asks anything of its caller; and that
 -- the running code meets the contracts of which a history is made.
+use Rattle.std.specs.Prelude.{Ok, is_ok}
+use Rattle.std.specs.Result.{result_unwrap_or}
 use mathlib.Core.Path.{◌≡◌, refl, sym, ap, ◌∙◌}
 use mathlib.Core.Bool.{Bool, true, false, not, ◌||◌}
 use mathlib.Core.List.{List, [], ◌∷◌, map}
@@ -13,18 +15,16 @@ use lib.Ieee.{Float}
 use lib.ListN.{length, take}
 use Rattle.laws.proofs.BoolLaws.{clash, by-test}
 use Rattle.laws.proofs.ListLaws.{take-map}
-use Rattle.buffer_state.specs.declared.Answer as Code
-use Rattle.buffer_state.specs.declared.Answer.TheVariants.{Done, Refused}
-use Rattle.buffer_state.specs.declared.Changed.{Changed}
 use Rattle.buffer_state.specs.declared.Head.{Head}
 use Rattle.buffer_state.specs.declared.Mode.{Mode}
 use Rattle.buffer_state.specs.declared.Offered.{Offered}
-use Rattle.buffer_state.specs.Answers.{changed, zero_head, create_answer, times_created, tags_created, abort_answer, mode_answer, offset_answer, window_start_answer, window_end_answer, settings_answer, counted, times_after, tags_after, list_after, append_result, remove_result, batched, outcome_of, batch_result, range_count, ranges_after, track_ranges_result, common_ranges_result, taken_count, walked_result, sought, seek_result}
+use Rattle.buffer_state.specs.Answers.{created, times_created, tags_created, set_answer, head_set, abort_result, mode_result, offset_result, window_start_result, window_end_result, settings_result, line_count, head_after, times_after, tags_after, list_after, append_result, remove_result, batch_answer, outcome_of, batch_result, range_count, ranges_after, track_ranges_result, common_ranges_result, walked_result, seek_result}
+use Rattle.buffer_state.specs.Append.{Outcome}
 use Rattle.buffer_state.specs.Batch.{offered_in}
 use Rattle.buffer_state.specs.Buffer.{Buffer, fresh}
-use Rattle.buffer_state.specs.Lent.{Lent, lent_of, buffer_in}
+use Rattle.buffer_state.specs.Lent.{Lent, head_of, lent_of, buffer_in}
 use Rattle.buffer_state.specs.Limits.{most_tracks, known_kind}
-use Rattle.buffer_state.specs.Refusals.{CallResult, done}
+use Rattle.buffer_state.specs.Refusals.{CallResult}
 use Rattle.buffer_state.specs.Run.{Call, reply_to, run, last_of, offers, on_offered}
 use Rattle.buffer_state.specs.Settings.{create}
 use Rattle.buffer_state.specs.WellFormed.{all_of, good_buffer}
@@ -112,34 +112,33 @@ more {b} {g} {back} {s} {t} {ms} good a k =
 pub plain : {s t : Lent} {ms : List Made} → From s ms t → Plainly s ms t
 unfolding run last_of
 plain none b good e = record { results = refl; state = e; kept = tt }
-plain (by_append f times tags lent r ts gs after κs h k) b good e = more good (append-agrees b good _ e f lent.now r ts gs after h) (λ c g d. plain k c g d)
-plain (by_remove start end times tags lent r ts gs after κs h k) b good e = more good (remove-agrees b good _ e start end lent.now r ts gs after h) (λ c g d. plain k c g d)
-plain (by_abort times tags r κs h k) b good e = more good (abort-agrees b good _ e r h) (λ c g d. plain k c g d)
-plain (by_mode m times tags r κs h k) b good e = more good (mode-agrees b good _ e m r h) (λ c g d. plain k c g d)
-plain (by_offset x times tags r κs h k) b good e = more good (offset-agrees b good _ e x r h) (λ c g d. plain k c g d)
-plain (by_window_start x times tags r κs h k) b good e = more good (window-start-agrees b good _ e x r h) (λ c g d. plain k c g d)
-plain (by_window_end x times tags r κs h k) b good e = more good (window_end-agrees b good _ e x r h) (λ c g d. plain k c g d)
-plain (by_reading times tags r κs h k) b good e = more good (reading-agrees b good _ e r h) (λ c g d. plain k c g d)
-plain (by_track_ranges track times tags lent r after κs h k) b good e = more good (track_ranges-agrees b good _ e track lent.now after r h) (λ c g d. plain k c g d)
-plain (by_common_ranges times tags lent r after κs h k) b good e = more good (common_ranges-agrees b good _ e lent.now after r h) (λ c g d. plain k c g d)
-plain (by_batch rows times tags lent r ts gs after κs h k) b good e = more good (batch-agrees b good _ e rows.now lent.now r ts gs after h) (λ c g d. plain k c g d)
-plain (by_walk track room times tags r κs h k) b good e = more good (walked-agrees b good _ e track room r h) (λ c g d. plain k c g d)
-plain (by_seek track t times tags r κs h k) b good e = more good (seek-agrees b good _ e track t r h.0) (λ c g d. plain k c g d)
+plain (by_append head f times tags lent r h ts gs after κs l k) b good e = more good (append-agrees b good _ e lent.now h ts gs after f r l) (λ c g d. plain k c g d)
+plain (by_remove head start end times tags lent r h ts gs after κs l k) b good e = more good (remove-agrees b good _ e lent.now h ts gs after start end r l) (λ c g d. plain k c g d)
+plain (by_abort head times tags r h κs l k) b good e = more good (abort-agrees b good _ e r h l) (λ c g d. plain k c g d)
+plain (by_mode head m times tags r h κs l k) b good e = more good (mode-agrees b good _ e r h m l) (λ c g d. plain k c g d)
+plain (by_offset head x times tags r h κs l k) b good e = more good (offset-agrees b good _ e r h x l) (λ c g d. plain k c g d)
+plain (by_window_start head x times tags r h κs l k) b good e = more good (window-start-agrees b good _ e r h x l) (λ c g d. plain k c g d)
+plain (by_window_end head x times tags r h κs l k) b good e = more good (window_end-agrees b good _ e r h x l) (λ c g d. plain k c g d)
+plain (by_reading times tags r κs l k) b good e = more good (reading-agrees b good _ e r l) (λ c g d. plain k c g d)
+plain (by_track_ranges track times tags lent r after κs l k) b good e = more good (track_ranges-agrees b good _ e track lent.now after r l) (λ c g d. plain k c g d)
+plain (by_common_ranges times tags lent r after κs l k) b good e = more good (common_ranges-agrees b good _ e lent.now after r l) (λ c g d. plain k c g d)
+plain (by_batch head rows times tags lent r h ts gs after κs l k) b good e = more good (batch-agrees b good _ e lent.now h ts gs after rows.now r l) (λ c g d. plain k c g d)
+plain (by_walk track room times tags r κs l k) b good e = more good (walked-agrees b good _ e track room r l) (λ c g d. plain k c g d)
+plain (by_seek track t times tags r κs l k) b good e = more good (seek-agrees b good _ e track t r l.0) (λ c g d. plain k c g d)
 
 -- ---- a creation that was not refused
 
-is_done : Code.Answer → Bool
-is_done Done = true
-is_done (Refused why) = false
-
-pub created : (kinds : List ℕ) → (changed zero_head (create kinds)).answer ≡ Done → create kinds ≡ done (fresh kinds)
-unfolding create is_done
-created kinds =
-    by-test (λ (x : CallResult Buffer). (changed zero_head x).answer ≡ Done → x ≡ done (fresh kinds))
+pub made : (kinds : List ℕ) {h : Head} → created (create kinds) ≡ Ok h → create kinds ≡ Ok (fresh kinds)
+unfolding create
+made kinds {h} =
+    by-test (λ (x : CallResult Buffer). created x ≡ Ok h → x ≡ Ok (fresh kinds))
     (eqb (length kinds) 0 || (ltb most_tracks (length kinds) || not (all_of known_kind kinds)))
-    (λ _ e. clash (sym (ap is_done e))) (λ _ e. refl)
+    (λ _ e. clash (sym (ap is_ok e))) (λ _ e. refl)
 
-pub fresh-good : (kinds : List ℕ) → create kinds ≡ done (fresh kinds) → IsGood (fresh kinds)
+pub made-head : (kinds : List ℕ) {h : Head} → created (create kinds) ≡ Ok h → h ≡ head_of (fresh kinds)
+made-head kinds {h} e = ap (λ (x : CallResult Head). result_unwrap_or x h) (sym e ∙ ap created (made kinds e))
+
+pub fresh-good : (kinds : List ℕ) → create kinds ≡ Ok (fresh kinds) → IsGood (fresh kinds)
 fresh-good kinds made = rw made at (created-good kinds)
 
 -- ---- the first n of a run
@@ -152,7 +151,7 @@ take-run b (suc n) (c ∷ cs) = λ i. record { call = c; result = (reply_to c b)
 
 -- ---- the account of the plain run
 
-module _ (kinds : List ℕ) (made : create kinds ≡ done (fresh kinds)) (cs : List Call) where
+module _ (kinds : List ℕ) (made : create kinds ≡ Ok (fresh kinds)) (cs : List Call) where
   given-last : (last_of (fresh kinds) cs).last ≡ length (offers (run (fresh kinds) cs))
   given-last = (run-lawful (fresh kinds) cs).last ∙ zero-add _
 
@@ -170,7 +169,7 @@ module _ (kinds : List ℕ) (made : create kinds ≡ done (fresh kinds)) (cs : L
 
 -- ---- THE THEOREM
 
-module _ (kinds : List ℕ) (made : create kinds ≡ done (fresh kinds)) (ms : List Made) (t : Lent) (p : IsPlain (fresh kinds) ms t) where
+module _ (kinds : List ℕ) (made : create kinds ≡ Ok (fresh kinds)) (ms : List Made) (t : Lent) (p : IsPlain (fresh kinds) ms t) where
   same_first : (n : ℕ) → entries (take n ms) ≡ run (fresh kinds) (calls (take n ms))
   same_first n =
       take-map _ n ms ∙ ap (take n) p.results ∙ sym (take-run (fresh kinds) n (calls ms))
@@ -188,14 +187,13 @@ module _ (kinds : List ℕ) (made : create kinds ≡ done (fresh kinds)) (ms : L
   }
 
 pub every-history : {kinds : List ℕ} {ms : List Made} {t : Lent} → IsHistory kinds ms t → Claim kinds ms t
-unfolding create_answer
-every-history {kinds} {ms} {t} (from lent times tags r ts gs κs h accepted k) =
-    let made = created kinds (sym (ap (λ (c : Changed). c.answer) h.0) ∙ accepted) in
-    let head = ap (λ (c : Changed). c.head) h.0 ∙ ap (λ (x : CallResult Buffer). (changed zero_head x).head) made in
-    let first = h.1.0 ∙ ap (λ (x : CallResult Buffer). times_created x times.now) made in
-    let second = h.1.1 ∙ ap (λ (x : CallResult Buffer). tags_created x tags.now) made in
-    let begun : ◌≡◌ {A = Lent} (record { head = r.head; times = ts; tags = gs }) (lent_of (fresh kinds)) = λ i. record { head = head i; times = first i; tags = second i } in
-    claimed kinds made ms t (plain k (fresh kinds) (facts-good (fresh kinds) (fresh-good kinds made)) begun)
+every-history {kinds} {ms} {t} (from lent times tags r h ts gs κs l accepted k) =
+    let done = made kinds (sym l.0 ∙ accepted) in
+    let head = made-head kinds (sym l.0 ∙ accepted) in
+    let first = l.1.0 ∙ ap (λ (x : CallResult Buffer). times_created x times.now) done in
+    let second = l.1.1 ∙ ap (λ (x : CallResult Buffer). tags_created x tags.now) done in
+    let begun : ◌≡◌ {A = Lent} (record { head = h; times = ts; tags = gs }) (lent_of (fresh kinds)) = λ i. record { head = head i; times = first i; tags = second i } in
+    claimed kinds done ms t (plain k (fresh kinds) (facts-good (fresh kinds) (fresh-good kinds done)) begun)
 
 -- ---- it is not vacuous: every list of calls on every buffer created has a history
 
@@ -216,6 +214,9 @@ three = ([], ([], ([], tt)))
 abbrev pub four : Lfts 4
 four = ([], three)
 
+abbrev pub five : Lfts 5
+five = ([], four)
+
 record Onward (s : Lent) (gs : List Given) : Type 0 where
   pub made : List Made
   pub same : map (λ (m : Made). m.given) made ≡ gs
@@ -233,37 +234,40 @@ first {g = g} step o = record {
   steps = step o.made o.last o.steps;
 }
 
--- the state under another head, and the references that are lent to its arrays
-abbrev under : Lent → Changed → Lent
-under s r = record { head = r.head; times = s.times; tags = s.tags }
+-- the state after a call that writes lines, by its result; and after one that changes the head alone
+abbrev left : Lent → CallResult Outcome → Lent
+left s x = record { head = head_after x s.head; times = times_after x s.times; tags = tags_after x s.tags }
+
+abbrev set : Lent → CallResult Buffer → Lent
+set s x = record { head = head_set x s.head; times = s.times; tags = s.tags }
 
 onward : (s : Lent) (gs : List Given) → Onward s gs
 onward s [] = record { made = []; same = refl; last = s; steps = none }
 onward s (append f d ∷ gs) =
     let x = append_result (length d) f s.head s.times s.tags in
-    let u : Lent = record { head = (counted s.head x).head; times = times_after x s.times; tags = tags_after x s.tags } in
-    first {u = u} (λ ms t k. by_append f (lend_mut s.times) (lend_mut s.tags) (lend_mut d) (counted s.head x) u.times u.tags (list_after x d) three (refl, (refl, (refl, refl))) k) (onward u gs)
+    let u = left s x in
+    first {u = u} (λ ms t k. by_append (lend_mut s.head) f (lend_mut s.times) (lend_mut s.tags) (lend_mut d) (line_count x) u.head u.times u.tags (list_after x d) four (refl, (refl, (refl, (refl, refl)))) k) (onward u gs)
 onward s (remove start end d ∷ gs) =
     let x = remove_result (length d) start end s.head s.times s.tags in
-    let u : Lent = record { head = (counted s.head x).head; times = times_after x s.times; tags = tags_after x s.tags } in
-    first {u = u} (λ ms t k. by_remove start end (lend_mut s.times) (lend_mut s.tags) (lend_mut d) (counted s.head x) u.times u.tags (list_after x d) three (refl, (refl, (refl, refl))) k) (onward u gs)
+    let u = left s x in
+    first {u = u} (λ ms t k. by_remove (lend_mut s.head) start end (lend_mut s.times) (lend_mut s.tags) (lend_mut d) (line_count x) u.head u.times u.tags (list_after x d) four (refl, (refl, (refl, (refl, refl)))) k) (onward u gs)
 onward s (abort ∷ gs) =
-    let r = abort_answer s.head s.times s.tags in
-    first {u = under s r} (λ ms t k. by_abort (lend s.times) (lend s.tags) r two refl k) (onward (under s r) gs)
+    let x = abort_result s.head s.times s.tags in
+    first {u = set s x} (λ ms t k. by_abort (lend_mut s.head) (lend s.times) (lend s.tags) (set_answer x) (set s x).head three (refl, refl) k) (onward (set s x) gs)
 onward s (set_mode m ∷ gs) =
-    let r = mode_answer m s.head s.times s.tags in
-    first {u = under s r} (λ ms t k. by_mode m (lend s.times) (lend s.tags) r two refl k) (onward (under s r) gs)
-onward s (set_offset x ∷ gs) =
-    let r = offset_answer x s.head s.times s.tags in
-    first {u = under s r} (λ ms t k. by_offset x (lend s.times) (lend s.tags) r two refl k) (onward (under s r) gs)
-onward s (set_window_start x ∷ gs) =
-    let r = window_start_answer x s.head s.times s.tags in
-    first {u = under s r} (λ ms t k. by_window_start x (lend s.times) (lend s.tags) r two refl k) (onward (under s r) gs)
-onward s (set_window_end x ∷ gs) =
-    let r = window_end_answer x s.head s.times s.tags in
-    first {u = under s r} (λ ms t k. by_window_end x (lend s.times) (lend s.tags) r two refl k) (onward (under s r) gs)
+    let x = mode_result m s.head s.times s.tags in
+    first {u = set s x} (λ ms t k. by_mode (lend_mut s.head) m (lend s.times) (lend s.tags) (set_answer x) (set s x).head three (refl, refl) k) (onward (set s x) gs)
+onward s (set_offset y ∷ gs) =
+    let x = offset_result y s.head s.times s.tags in
+    first {u = set s x} (λ ms t k. by_offset (lend_mut s.head) y (lend s.times) (lend s.tags) (set_answer x) (set s x).head three (refl, refl) k) (onward (set s x) gs)
+onward s (set_window_start y ∷ gs) =
+    let x = window_start_result y s.head s.times s.tags in
+    first {u = set s x} (λ ms t k. by_window_start (lend_mut s.head) y (lend s.times) (lend s.tags) (set_answer x) (set s x).head three (refl, refl) k) (onward (set s x) gs)
+onward s (set_window_end y ∷ gs) =
+    let x = window_end_result y s.head s.times s.tags in
+    first {u = set s x} (λ ms t k. by_window_end (lend_mut s.head) y (lend s.times) (lend s.tags) (set_answer x) (set s x).head three (refl, refl) k) (onward (set s x) gs)
 onward s (read_settings ∷ gs) =
-    first {u = s} (λ ms t k. by_reading (lend s.times) (lend s.tags) (settings_answer s.head s.times s.tags) two refl k) (onward s gs)
+    first {u = s} (λ ms t k. by_reading (lend s.times) (lend s.tags) (settings_result s.head s.times s.tags) two refl k) (onward s gs)
 onward s (track_ranges track d ∷ gs) =
     let x = track_ranges_result (length d) track s.head s.times s.tags in
     first {u = s} (λ ms t k. by_track_ranges track (lend s.times) (lend s.tags) (lend_mut d) (range_count x) (ranges_after x d) three (record { answer = refl; list = refl }) k) (onward s gs)
@@ -273,43 +277,40 @@ onward s (common_ranges d ∷ gs) =
 onward s (batch rows d ∷ gs) =
     let x = batch_result (length d) (map offered_in rows) s.head s.times s.tags in
     let o = outcome_of x in
-    let u : Lent = record { head = (batched s.head x).head; times = times_after o s.times; tags = tags_after o s.tags } in
-    first {u = u} (λ ms t k. by_batch (lend rows) (lend_mut s.times) (lend_mut s.tags) (lend_mut d) (batched s.head x) u.times u.tags (list_after o d) four (refl, (refl, (refl, refl))) k) (onward u gs)
+    let u = left s o in
+    first {u = u} (λ ms t k. by_batch (lend_mut s.head) (lend rows) (lend_mut s.times) (lend_mut s.tags) (lend_mut d) (batch_answer x) u.head u.times u.tags (list_after o d) five (refl, (refl, (refl, (refl, refl)))) k) (onward u gs)
 onward s (walked track room ∷ gs) =
-    let r = taken_count (walked_result room track s.head s.times s.tags) in
-    first {u = s} (λ ms t k. by_walk track room (lend s.times) (lend s.tags) r two refl k) (onward s gs)
+    first {u = s} (λ ms t k. by_walk track room (lend s.times) (lend s.tags) (walked_result room track s.head s.times s.tags) two refl k) (onward s gs)
 onward s (seek track t ∷ gs) =
-    let r = sought (seek_result track t s.head s.times s.tags) in
-    first {u = s} (λ ms u k. by_seek track t (lend s.times) (lend s.tags) r two (refl, seek-within track t s.head s.times s.tags) k) (onward s gs)
+    first {u = s} (λ ms u k. by_seek track t (lend s.times) (lend s.tags) (seek_result track t s.head s.times s.tags) two (refl, seek-within track t s.head s.times s.tags) k) (onward s gs)
 
 -- whatever the arrays held before the creation
-pub some-history : (kinds : List ℕ) (ts : List (List ℤ)) (fs : List (List ℕ)) (gs : List Given) → create kinds ≡ done (fresh kinds) → Happens kinds gs
-unfolding create_answer
-some-history kinds ts fs gs made =
-    let r = create_answer kinds in
-    let o = onward (record { head = r.head; times = times_created (create kinds) ts; tags = tags_created (create kinds) fs }) gs in
+pub some-history : (kinds : List ℕ) (ts : List (List ℤ)) (fs : List (List ℕ)) (gs : List Given) → create kinds ≡ Ok (fresh kinds) → Happens kinds gs
+some-history kinds ts fs gs done =
+    let x = create kinds in
+    let h = head_of (fresh kinds) in
+    let o = onward (record { head = h; times = times_created x ts; tags = tags_created x fs }) gs in
     record {
       made = o.made;
       same = o.same;
       last = o.last;
-      history = from (lend kinds) (lend_mut ts) (lend_mut fs) r (times_created (create kinds) ts) (tags_created (create kinds) fs) three (refl, (refl, refl))
-          (ap (λ (x : CallResult Buffer). (changed zero_head x).answer) made) o.steps;
+      history = from (lend kinds) (lend_mut ts) (lend_mut fs) (created x) h (times_created x ts) (tags_created x fs) three (refl, (refl, refl)) (ap created done) o.steps;
     }
 
 -- ---- it has no hidden door
 
 -- no call asks anything of its caller
-pub free : (κs : Lfts 2) (λs : Lfts 3) (μs : Lfts 4) (h : Head) (f : Offered) (m : Mode) (x y : Float) (track room : ℕ) (t : ℤ) (kinds : Bor (List ℕ))
-    (times : Bor (List (List ℤ))) (tags : Bor (List (List ℕ))) (rows : Bor (List (List ℤ)))
+pub free : (κs : Lfts 2) (λs : Lfts 3) (μs : Lfts 4) (νs : Lfts 5) (h : Head) (f : Offered) (m : Mode) (x y : Float) (track room : ℕ) (t : ℤ) (kinds : Bor (List ℕ))
+    (head : MutBor Head) (times : Bor (List (List ℤ))) (tags : Bor (List (List ℕ))) (rows : Bor (List (List ℤ)))
     (timesMut : MutBor (List (List ℤ))) (tagsMut fates : MutBor (List (List ℕ))) (list : MutBor (List (List ℤ)))
-    → Create.Asked λs (kinds, (timesMut, (tagsMut, tt))) × Append.Asked λs (h, (f, (timesMut, (tagsMut, (fates, tt)))))
-    × Remove.Asked λs (h, (x, (y, (timesMut, (tagsMut, (fates, tt)))))) × Abort.Asked κs (h, (times, (tags, tt)))
-    × SetMode.Asked κs (h, (times, (tags, (m, tt)))) × SetOffset.Asked κs (h, (times, (tags, (x, tt))))
-    × SetWindowStart.Asked κs (h, (times, (tags, (x, tt)))) × SetWindowEnd.Asked κs (h, (times, (tags, (x, tt))))
+    → Create.Asked λs (kinds, (timesMut, (tagsMut, tt))) × Append.Asked μs (head, (f, (timesMut, (tagsMut, (fates, tt)))))
+    × Remove.Asked μs (head, (x, (y, (timesMut, (tagsMut, (fates, tt)))))) × Abort.Asked λs (head, (times, (tags, tt)))
+    × SetMode.Asked λs (head, (times, (tags, (m, tt)))) × SetOffset.Asked λs (head, (times, (tags, (x, tt))))
+    × SetWindowStart.Asked λs (head, (times, (tags, (x, tt)))) × SetWindowEnd.Asked λs (head, (times, (tags, (x, tt))))
     × ReadSettings.Asked κs (h, (times, (tags, tt))) × TrackRanges.Asked λs (h, (times, (tags, (track, (list, tt)))))
-    × CommonRanges.Asked λs (h, (times, (tags, (list, tt)))) × Batch.Asked μs (h, (rows, (timesMut, (tagsMut, (fates, tt)))))
+    × CommonRanges.Asked λs (h, (times, (tags, (list, tt)))) × Batch.Asked νs (head, (rows, (timesMut, (tagsMut, (fates, tt)))))
     × Walked.Asked κs (h, (times, (tags, (track, (room, tt))))) × Seek.Asked κs (h, (times, (tags, (track, (t, tt)))))
-free κs λs μs h f m x y track room t kinds times tags rows timesMut tagsMut fates list = (tt, tt, tt, tt, tt, tt, tt, tt, tt, tt, tt, tt, tt, tt)
+free κs λs μs νs h f m x y track room t kinds head times tags rows timesMut tagsMut fates list = (tt, tt, tt, tt, tt, tt, tt, tt, tt, tt, tt, tt, tt, tt)
 
 -- the running code meets the contracts of which a history is made
 pub code_meets : {M : Type 1}

@@ -1,4 +1,5 @@
 -- The call's result: each refusal where its test is the first to pass, and after all of them the last pass settled.
+use Rattle.std.specs.Prelude.{Ok, Err}
 use mathlib.Core.Path.{◌≡◌, refl, sym, ap, ◌∙◌}
 use mathlib.Core.Bool.{Bool, true, false, ◌&&◌}
 use mathlib.Core.List.{List}
@@ -20,7 +21,7 @@ use Rattle.buffer_state.specs.Buffer.{Buffer}
 use Rattle.buffer_state.specs.Layout.{zero_frame, padded_list, buffer_of}
 use Rattle.buffer_state.specs.Lent.{times_of, tags_of, state_at, head_of, well_formed_at}
 use Rattle.buffer_state.specs.Limits.{places, last_number}
-use Rattle.buffer_state.specs.Refusals.{CallResult, refused, done, refuse_if}
+use Rattle.buffer_state.specs.Refusals.{CallResult, refuse_if}
 use Rattle.buffer_laws.proofs.AppendLaws.{last-from, last_pass-good}
 use Rattle.buffer_laws.proofs.GoodLaws.{IsGood, facts-good}
 use Rattle.buffer_laws.proofs.LayoutLaws.{few-tracks}
@@ -30,19 +31,19 @@ use Rattle.append.specs.Settled.{settled_result, pass_at, IsReady}
 use Rattle.append.proofs.StoredLaws.{held-good, held-head, held-count}
 
 is_done : CallResult Pass → Bool
-is_done (refused why) = false
-is_done (done p) = true
+is_done (Err why) = false
+is_done (Ok p) = true
 
 -- why a result is refused; of one that is done, any refusal
 why_of : CallResult Pass → Refusal
-why_of (refused why) = why
-why_of (done p) = Full
+why_of (Err why) = why
+why_of (Ok p) = Full
 
 module _ (lent : ℕ) (f : Offered) (h : Head) (ts : List (List ℤ)) (gs : List (List ℕ)) where
   abbrev held : Buffer
   held = buffer_of (state_at h ts gs)
 
-  pub refused-one : well_formed_at h ts gs ≡ false → append_result lent f h ts gs ≡ refused IllFormed
+  pub refused-one : well_formed_at h ts gs ≡ false → append_result lent f h ts gs ≡ Err IllFormed
   unfolding append_result
   refused-one e = ill-formed-refused (append lent f) h ts gs e
 
@@ -51,7 +52,7 @@ module _ (lent : ℕ) (f : Offered) (h : Head) (ts : List (List ℤ)) (gs : List
     unfolding append_result
     whole = on-well_formed (append lent f) h ts gs w
 
-    pub refused-two : lent < places → append_result lent f h ts gs ≡ refused ShortFates
+    pub refused-two : lent < places → append_result lent f h ts gs ≡ Err ShortFates
     unfolding append
     refused-two e = whole ∙ rw (lt-ltb lent places e)
 
@@ -64,30 +65,30 @@ module _ (lent : ℕ) (f : Offered) (h : Head) (ts : List (List ℤ)) (gs : List
       count : length held.tracks ≡ h.ntracks
       count = ap (λ (k : Head). k.ntracks) (sym (held-head h ts gs w))
 
-      pub refused-three : (leb 1 f.track && leb f.track h.ntracks) ≡ false → append_result lent f h ts gs ≡ refused NoTrack
+      pub refused-three : (leb 1 f.track && leb f.track h.ntracks) ≡ false → append_result lent f h ts gs ≡ Err NoTrack
       unfolding append
       refused-three e = whole ∙ rw (le-ltb lent places lines, count, e)
 
       module _ (track : (leb 1 f.track && leb f.track h.ntracks) ≡ true) where
-        pub refused-four : is_offerable f ≡ false → append_result lent f h ts gs ≡ refused FrameLimits
+        pub refused-four : is_offerable f ≡ false → append_result lent f h ts gs ≡ Err FrameLimits
         unfolding append
         refused-four e = whole ∙ rw (le-ltb lent places lines, count, track, e)
 
         module _ (good : is_offerable f ≡ true) where
-          pub refused-nine : h.last ≡ last_number → append_result lent f h ts gs ≡ refused LastNumber
+          pub refused-nine : h.last ≡ last_number → append_result lent f h ts gs ≡ Err LastNumber
           unfolding append
           refused-nine e = whole ∙ rw (le-ltb lent places lines, count, track, good, eq-eqb h.last last_number e)
 
           module _ (number : eqb h.last last_number ≡ false) where
             -- refusals 7 and 9 in their order, as both passes decide
-            pub stops : (why : Refusal) → decision held f ≡ refused why → append_result lent f h ts gs ≡ refused why
+            pub stops : (why : Refusal) → decision held f ≡ Err why → append_result lent f h ts gs ≡ Err why
             unfolding append decision why_of is_done
             stops why e = whole ∙ rw (le-ltb lent places lines, count, track, good, number) (go (leaves_limits held f) (lacks_group held f) e)
               where
-                go : (x y : Bool) → refuse_if x ResultLimits (refuse_if y LastNumber (done (last_pass held f))) ≡ refused why
-                    → refuse_if x ResultLimits (refuse_if y LastNumber (refuse_if (ltb places (length (appended_outcome held f).after.frames)) Full (done (appended_outcome held f)))) ≡ refused why
-                go true y d = ap (λ (r : CallResult Pass). refused (why_of r)) d
-                go false true d = ap (λ (r : CallResult Pass). refused (why_of r)) d
+                go : (x y : Bool) → refuse_if x ResultLimits (refuse_if y LastNumber (Ok (last_pass held f))) ≡ Err why
+                    → refuse_if x ResultLimits (refuse_if y LastNumber (refuse_if (ltb places (length (appended_outcome held f).after.frames)) Full (Ok (appended_outcome held f)))) ≡ Err why
+                go true y d = ap (λ (r : CallResult Pass). Err (why_of r)) d
+                go false true d = ap (λ (r : CallResult Pass). Err (why_of r)) d
                 go false false d = clash (ap is_done d)
 
             pub goes_on : leaves_limits held f ≡ false → lacks_group held f ≡ false → append_result lent f h ts gs ≡ settled_result (last_pass held f)

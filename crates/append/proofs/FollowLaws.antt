@@ -1,4 +1,5 @@
 -- A frame that goes on from where its track stands: what its append comes to.
+use Rattle.std.specs.Prelude.{Ok}
 use mathlib.Core.Path.{◌≡◌, sym, ap, subst, ◌∙◌}
 use mathlib.Core.Bool.{true, false, not, ◌&&◌, ◌||◌}
 use mathlib.Core.List.{List, []}
@@ -19,7 +20,6 @@ use Rattle.buffer_state.specs.Buffer.{Buffer, zero_track, track_of, with_need}
 use Rattle.buffer_state.specs.Layout.{buffer_of}
 use Rattle.buffer_state.specs.Lent.{state_at, head_of, well_formed_at}
 use Rattle.buffer_state.specs.Limits.{places}
-use Rattle.buffer_state.specs.Refusals.{done}
 use Rattle.buffer_state.specs.Store.{kept, lines_of}
 use Rattle.buffer_laws.proofs.AppendLaws.{last-from}
 use Rattle.buffer_laws.proofs.TestLaws.{all_weaker}
@@ -69,7 +69,7 @@ module _ (h : Head) (ts : List (List ℤ)) (gs : List (List ℕ)) (w : well_form
         (λ x e. ap not (ap (λ (t : Track). is_overlapped t g x) track-off ∙ k.free x e)) held.frames before)
 
     -- the frame is stored beside all that were, and there is no line
-    pub follows-result : append_result places f h ts gs ≡ done (record { after = step_nine storing held.frames; lines = [] })
+    pub follows-result : append_result places f h ts gs ≡ Ok (record { after = step_nine storing held.frames; lines = [] })
     unfolding stored
     follows-result =
         let stay = all_stay in
@@ -77,4 +77,4 @@ module _ (h : Head) (ts : List (List ℤ)) (gs : List (List ℕ)) (w : well_form
         let room : length (stored storing).after.frames ≤ places = omega (arith, stored-count storing, count, k.room) in
         let last = goes_on places f h ts gs w (omega arith) offered-track k.offered k.number k.calm.inside k.calm.group in
         last ∙ ap settled_result k.calm.last ∙ store-result (pass_at h ts gs g) k.stays room
-        ∙ (λ j. done (record { after = step_nine storing (stay.0 j); lines = stay.1 j }))
+        ∙ (λ j. Ok (record { after = step_nine storing (stay.0 j); lines = stay.1 j }))

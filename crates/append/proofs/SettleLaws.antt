@@ -1,4 +1,5 @@
 -- The last pass settled: by the cause that steps 4 to 6 give, the frame is dropped or stored.
+use Rattle.std.specs.Prelude.{Ok, Err}
 use mathlib.Core.Path.{◌≡◌, refl}
 use mathlib.Core.Bool.{Bool, true, false, cond}
 use mathlib.Core.List.{List, [], ◌∷◌, ◌++◌}
@@ -12,7 +13,6 @@ use Rattle.buffer_state.specs.declared.Refusal.TheVariants.{Full}
 use Rattle.buffer_state.specs.Append.{Pass, before_window, past_window, lacks_random_access, dropped_outcome, needing_buffer, stored, settled}
 use Rattle.buffer_state.specs.Buffer.{Buffer}
 use Rattle.buffer_state.specs.Limits.{places}
-use Rattle.buffer_state.specs.Refusals.{refused, done}
 use Rattle.heads.specs.Heads.{drop_cause, drop_buffer}
 use Rattle.append.specs.Settled.{settled_result}
 
@@ -50,7 +50,7 @@ module _ (p : Pass) where
 
   -- a dropped frame needs no room
   pub drop-result : (cause : ℕ) → cause ≡ drop_cause p → 1 ≤ cause → length p.buffer.frames ≤ places
-      → settled_result p ≡ done (dropped_outcome (drop_buffer p.buffer p.frame.track cause) cause)
+      → settled_result p ≡ Ok (dropped_outcome (drop_buffer p.buffer p.frame.track cause) cause)
   unfolding settled_result
   drop-result cause e h few =
       let o : settled p ≡ dropped_outcome (drop_buffer p.buffer p.frame.track cause) cause =
@@ -59,12 +59,12 @@ module _ (p : Pass) where
       rw (o, room)
 
   module _ (e : drop_cause p ≡ 0) where
-    pub store-full : places < length (stored (record { buffer = needing_buffer false p; frame = p.frame })).after.frames → settled_result p ≡ refused Full
+    pub store-full : places < length (stored (record { buffer = needing_buffer false p; frame = p.frame })).after.frames → settled_result p ≡ Err Full
     unfolding settled_result
     store-full h = rw (settled-store e, lt-ltb _ _ h)
 
     pub store-result : length (stored (record { buffer = needing_buffer false p; frame = p.frame })).after.frames ≤ places
-        → settled_result p ≡ done (stored (record { buffer = needing_buffer false p; frame = p.frame }))
+        → settled_result p ≡ Ok (stored (record { buffer = needing_buffer false p; frame = p.frame }))
     unfolding settled_result
     store-result h = rw (settled-store e, le-ltb _ _ h)
 

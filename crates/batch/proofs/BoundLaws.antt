@@ -1,4 +1,5 @@
 -- Bounds: what they say of one track, how they rise, and that an append leaves those that were raised by it.
+use Rattle.std.specs.Prelude.{Ok}
 use mathlib.Core.Path.{◌≡◌, sym, ap, ◌∙◌}
 use mathlib.Core.Bool.{Bool, true, not, ◌||◌}
 use mathlib.Core.List.{List, [], ◌∷◌}
@@ -23,7 +24,6 @@ use Rattle.buffer_state.specs.Buffer.{Buffer, track_of}
 use Rattle.buffer_state.specs.Layout.{zero_frame, buffer_of}
 use Rattle.buffer_state.specs.Lent.{frames_of, state_at, head_of, well_formed_at}
 use Rattle.buffer_state.specs.Limits.{offered_time, result_time, good_duration}
-use Rattle.buffer_state.specs.Refusals.{done}
 use Rattle.buffer_state.specs.WellFormed.{all_of, good_frame}
 use Rattle.buffer_laws.proofs.AppendLaws.{Moved, IsAccepted, Ends, appended-all}
 use Rattle.buffer_laws.proofs.CallLaws.{append-done}
@@ -34,7 +34,6 @@ use Rattle.buffer_laws.proofs.RowLaws.{frames-length}
 use Rattle.buffer_laws.proofs.SettingLaws.{if-done}
 use Rattle.buffer_laws.proofs.TestLaws.{all_first, all_rest, all_more, all_none, all_append, all_weaker}
 use Rattle.limits.proofs.LimitLaws.{time-mag}
-use Rattle.append.specs.declared.Bound.{Bound}
 use Rattle.append.specs.Settled.{Before}
 use Rattle.append.proofs.StoredLaws.{held-good, held-count, held-store}
 use Rattle.batch.specs.Bounds.{bound_at, is_early, IsBounded, Raised}
@@ -44,7 +43,7 @@ pub next_fits : (z : ℤ) → result_time z ≡ true → SFits w64 (z +ℤ pos 1
 next_fits z e = record { sfits = omega (arith, mag-add z (pos 1), time-mag z e) }
 
 -- the frames of one track
-pub bounds-own : (bounds : List Bound) (l : List Frame) → IsBounded bounds l → (track : ℕ) → Before track (bound_at bounds track) l
+pub bounds-own : (bounds : List ℤ) (l : List Frame) → IsBounded bounds l → (track : ℕ) → Before track (bound_at bounds track) l
 bounds-own bounds l b track = all_weaker (is_early bounds) _ own l b.each
   where
     own : (g : Frame) → is_early bounds g ≡ true → (not (eqb g.track track) || lt_z g.pts (bound_at bounds track)) ≡ true
@@ -55,45 +54,45 @@ bounds-own bounds l b track = all_weaker (is_early bounds) _ own l b.each
 
 -- ---- bounds that rise
 
-pub raised-each : (before after : List Bound) → Raised before after → (l : List Frame) → all_of (is_early before) l ≡ true → all_of (is_early after) l ≡ true
+pub raised-each : (before after : List ℤ) → Raised before after → (l : List Frame) → all_of (is_early before) l ≡ true → all_of (is_early after) l ≡ true
 raised-each before after r = all_weaker (is_early before) (is_early after) later
   where
     later : (g : Frame) → is_early before g ≡ true → is_early after g ≡ true
     later g e =
         lt_test (lt-le (test-lt {a = g.pts} {b = bound_at before g.track} e) (test-le {a = bound_at before g.track} {b = bound_at after g.track} (r.each g.track)))
 
-module _ (bounds : List Bound) (k : ℕ) (new : Bound) (inside : k < length bounds) where
-  pub set-bound : bound_at (set bounds k new) k ≡ new.micros
-  set-bound = ap (λ (b : Bound). b.micros) (get_or-set_same bounds k new (record { micros = pos 0 }) inside)
+module _ (bounds : List ℤ) (k : ℕ) (new : ℤ) (inside : k < length bounds) where
+  pub set-bound : bound_at (set bounds k new) k ≡ new
+  set-bound = get_or-set_same bounds k new (pos 0) inside
 
-  pub set-raised : le_z (bound_at bounds k) new.micros ≡ true → Raised bounds (set bounds k new)
+  pub set-raised : le_z (bound_at bounds k) new ≡ true → Raised bounds (set bounds k new)
   set-raised h = record { five = length-set bounds k new; each = each }
     where
       each : (track : ℕ) → le_z (bound_at bounds track) (bound_at (set bounds k new) track) ≡ true
       each track =
           split (eqb track k)
           (λ t. rw (eqb-true track k t, set-bound) h)
-          (λ t. ap (λ (b : Bound). le_z (bound_at bounds track) b.micros) (get_or-set_other bounds k track new (record { micros = pos 0 }) (eqb-false track k t))
+          (λ t. ap (le_z (bound_at bounds track)) (get_or-set_other bounds k track new (pos 0) (eqb-false track k t))
           ∙ le_test (le_refl (bound_at bounds track)))
 
   -- the track's own bound reaches its highest end
-  pub set-high : (h : Head) → ((b : Buffer) → h ≡ head_of b → le_z (track_of b k).end new.micros ≡ true)
+  pub set-high : (h : Head) → ((b : Buffer) → h ≡ head_of b → le_z (track_of b k).end new ≡ true)
       → (b : Buffer) → h ≡ head_of b → le_z (track_of b k).end (bound_at (set bounds k new) k) ≡ true
   set-high h high b e = ap (le_z (track_of b k).end) set-bound ∙ high b e
 
 -- ---- the frames one by one
 
-pub none-bounded : (bounds : List Bound) → length bounds ≡ 5 → IsBounded bounds []
+pub none-bounded : (bounds : List ℤ) → length bounds ≡ 5 → IsBounded bounds []
 none-bounded bounds e = record { five = e; each = all_none (is_early bounds) }
 
 -- one frame more, and the bound of its track raised past it
-pub bounded-more : (bounds : List Bound) (l : List Frame) (i : ℕ) (new : Bound) → let g = get_or l i zero_frame in i < length l → g.track < 5
-    → le_z (bound_at bounds g.track) new.micros ≡ true → lt_z g.pts new.micros ≡ true
+pub bounded-more : (bounds : List ℤ) (l : List Frame) (i : ℕ) (new : ℤ) → let g = get_or l i zero_frame in i < length l → g.track < 5
+    → le_z (bound_at bounds g.track) new ≡ true → lt_z g.pts new ≡ true
     → IsBounded bounds (take i l) → IsBounded (set bounds g.track new) (take (i + 1) l)
 bounded-more bounds l i new inside on up past b =
     let g = get_or l i zero_frame in
     let k : g.track < length bounds = omega (arith, b.five) in
-    let after : List Bound = set bounds g.track new in
+    let after : List ℤ = set bounds g.track new in
     let raised = set-raised bounds g.track new k up in
     let here : is_early after g ≡ true = ap (lt_z g.pts) (set-bound bounds g.track new k) ∙ past in
     record {
@@ -131,7 +130,7 @@ duration-from : (f : Offered) → is_offerable f ≡ true → 1 ≤ f.duration
 unfolding is_offerable good_duration
 duration-from f e = leb-true 1 f.duration (and_left _ _ (and_right (offered_time f.dts) _ (and_right (offered_time f.pts) _ e)))
 
-module _ (lent : ℕ) (f : Offered) (b : Buffer) (o : Outcome) (e : append lent f b ≡ done o) where
+module _ (lent : ℕ) (f : Offered) (b : Buffer) (o : Outcome) (e : append lent f b ≡ Ok o) where
   accepted : IsAccepted b f × (appended_outcome b f ≡ o)
   accepted = if-done (λ (o : Outcome). IsAccepted b f × (appended_outcome b f ≡ o)) (append lent f b) (append-done lent f b) e
 
@@ -142,7 +141,7 @@ module _ (lent : ℕ) (f : Offered) (b : Buffer) (o : Outcome) (e : append lent 
   accepted-to = accepted.0.track_to
 
   -- bounds that have risen to the track's highest end bound the frames after the append
-  pub after-bounded : (before after : List Bound) → IsBounded before b.frames → Raised before after
+  pub after-bounded : (before after : List ℤ) → IsBounded before b.frames → Raised before after
       → le_z (track_of o.after f.track).end (bound_at after f.track) ≡ true → IsBounded after o.after.frames
   after-bounded before after bounded r high = record {
     five = r.five ∙ bounded.five;

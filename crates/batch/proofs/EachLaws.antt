@@ -1,4 +1,5 @@
 -- From frame to frame of a batch: the state that an accepted frame leaves, the lines joined, and what a batch that ends here comes to.
+use Rattle.std.specs.Prelude.{Option, None, Some, Result, Ok, Err}
 use mathlib.Core.Path.{◌≡◌, refl, sym, ap, subst, ◌∙◌}
 use mathlib.Core.Bool.{Bool, true, false}
 use mathlib.Core.List.{List, [], ◌∷◌, ◌++◌, append-nil, append_assoc, map, map-append}
@@ -11,21 +12,18 @@ use lib.ListN.{length, take, drop, get_or, length-append, length-map, length-dro
 use lib.Seq.{drop-cons, take_at, drop_at, drop-drop}
 use lib.Signed.{le_z}
 use Rattle.laws.proofs.BoolLaws.{clash}
-use Rattle.buffer_state.specs.declared.Batched.{Batched}
-use Rattle.buffer_state.specs.declared.Count.{Count}
-use Rattle.buffer_state.specs.declared.Count.TheVariants as Count
+use Rattle.buffer_state.specs.declared.Accepted.{Accepted}
 use Rattle.buffer_state.specs.declared.Head.{Head}
 use Rattle.buffer_state.specs.declared.Offered.{Offered}
-use Rattle.buffer_state.specs.declared.Stop.{Stop}
-use Rattle.buffer_state.specs.declared.Stop.TheVariants.{Nothing, By}
-use Rattle.buffer_state.specs.Answers.{counted, times_after, tags_after, written, list_after, append_result, batched}
+use Rattle.buffer_state.specs.declared.Refusal.{Refusal}
+use Rattle.buffer_state.specs.Answers.{line_count, head_after, times_after, tags_after, written, list_after, append_result, batch_answer}
 use Rattle.buffer_state.specs.Append.{Outcome, append}
 use Rattle.buffer_state.specs.Batch.{Batch, offered_in, ended, onward, following_batch, append_each, most_frames, batch_lines}
 use Rattle.buffer_state.specs.Buffer.{Buffer, track_of}
 use Rattle.buffer_state.specs.Layout.{buffer_of}
 use Rattle.buffer_state.specs.Lent.{state_at, head_of, times_in, tags_in, well_formed_at}
 use Rattle.buffer_state.specs.Limits.{places}
-use Rattle.buffer_state.specs.Refusals.{CallResult, refused, done}
+use Rattle.buffer_state.specs.Refusals.{CallResult}
 use Rattle.buffer_state.specs.Run.{append_call, by_outcome, reply_to}
 use Rattle.buffer_state.specs.Store.{Line}
 use Rattle.buffer_laws.proofs.AnswerLaws.{LeavesBatch}
@@ -34,10 +32,9 @@ use Rattle.buffer_laws.proofs.KindLaws.{kinds_of, reply-kinds}
 use Rattle.buffer_laws.proofs.LayoutLaws.{few-tracks}
 use Rattle.buffer_laws.proofs.LentLaws.{lent-good, lent_back, held_back, laid-well_formed, on-well_formed}
 use Rattle.heads.specs.Heads.{HasTrack}
-use Rattle.append.specs.declared.Bound.{Bound}
 use Rattle.append.proofs.StoredLaws.{held-count}
 use Rattle.batch.specs.Bounds.{bound_at, IsBounded, Raised}
-use Rattle.batch.specs.Each.{stop_by, ended_with, onwards, Going}
+use Rattle.batch.specs.Each.{onwards, Going}
 use Rattle.batch.proofs.BoundLaws.{accepted-from, accepted-to, after-bounded}
 
 -- ---- the rows
@@ -71,20 +68,24 @@ onwards-more i told o r =
     let lines = sym (append_assoc told o.lines r.outcome.lines) in
     λ j. record { outcome = record { after = r.outcome.after; lines = lines j }; accepted = count j; stop = r.stop }
 
--- ---- what a count says
+-- ---- what an answer says
 
-abbrev pub is_done : Count → Bool
-is_done (Count.Done n) = true
-is_done (Count.Refused why) = false
+abbrev is_done : Result ℕ Refusal → Bool
+is_done (Ok n) = true
+is_done (Err why) = false
 
-abbrev count_in : Count → ℕ
-count_in (Count.Done n) = n
-count_in (Count.Refused why) = 0
+abbrev count_in : Result ℕ Refusal → ℕ
+count_in (Ok n) = n
+count_in (Err why) = 0
+
+abbrev why_in : Result ℕ Refusal → Refusal → Refusal
+why_in (Ok n) other = other
+why_in (Err why) other = why
 
 -- ---- before the first frame
 
 module _ (h : Head) (ts : List (List ℤ)) (gs : List (List ℕ)) (w : well_formed_at h ts gs ≡ true) where
-  pub going-first : (fs : List Offered) (lines₀ : List (List ℕ)) (bounds : List Bound) → IsBounded bounds (buffer_of (state_at h ts gs)).frames
+  pub going-first : (fs : List Offered) (lines₀ : List (List ℕ)) (bounds : List ℤ) → IsBounded bounds (buffer_of (state_at h ts gs)).frames
       → Going (buffer_of (state_at h ts gs)) fs lines₀ 0 h ts gs bounds 0 lines₀
   going-first fs lines₀ bounds bounded =
       let r = append_each fs (buffer_of (state_at h ts gs)) in
@@ -101,7 +102,7 @@ module _ (h : Head) (ts : List (List ℤ)) (gs : List (List ℕ)) (w : well_form
 
 -- ---- after i frames
 
-module _ (b : Buffer) (fs : List Offered) (lines₀ : List (List ℕ)) (i : ℕ) (h : Head) (ts : List (List ℤ)) (gs : List (List ℕ)) (bounds : List Bound) (at : ℕ) (lines : List (List ℕ)) (g : Going b fs lines₀ i h ts gs bounds at lines) where
+module _ (b : Buffer) (fs : List Offered) (lines₀ : List (List ℕ)) (i : ℕ) (h : Head) (ts : List (List ℤ)) (gs : List (List ℕ)) (bounds : List ℤ) (at : ℕ) (lines : List (List ℕ)) (g : Going b fs lines₀ i h ts gs bounds at lines) where
   abbrev held : Buffer
   held = buffer_of (state_at h ts gs)
 
@@ -121,11 +122,11 @@ module _ (b : Buffer) (fs : List Offered) (lines₀ : List (List ℕ)) (i : ℕ)
 
   -- ---- no frame more
 
-  -- what a batch of these frames leaves: the answer with the head, both arrays, the fate list
-  abbrev pub IsFinished : Head → Batched → List (List ℤ) → List (List ℕ) → List (List ℕ) → Type 0
-  IsFinished start r ts' gs' lines' = LeavesBatch start ts gs lines₀ (done (append_each fs b)) r ts' gs' lines'
+  -- what a batch of these frames leaves: the answer, the head, both arrays, the fate list
+  abbrev pub IsFinished : Head → Accepted → Head → List (List ℤ) → List (List ℕ) → List (List ℕ) → Type 0
+  IsFinished start r head ts' gs' lines' = LeavesBatch start ts gs lines₀ (Ok (append_each fs b)) (Ok r) head ts' gs' lines'
 
-  finishes : (stop : Stop) → append_each fs b ≡ onwards i g.told (ended held stop) → (start : Head) → IsFinished start (ended_with h i at stop) ts gs lines
+  finishes : (stop : Option Refusal) → append_each fs b ≡ onwards i g.told (ended held stop) → (start : Head) → IsFinished start (record { frames = i; lines = at; stop = stop }) h ts gs lines
   finishes stop e start =
       let told : g.told ++ [] ≡ g.told = append-nil g.told in
       let accepted : i + 0 ≡ i = add-zero i in
@@ -133,23 +134,24 @@ module _ (b : Buffer) (fs : List Offered) (lines₀ : List (List ℕ)) (i : ℕ)
       e ∙ (λ j. record { outcome = record { after = held; lines = told j }; accepted = accepted j; stop = stop }) in
       let laid = lent_back h ts gs g.whole in
       let count = g.count in (
-        (λ j. ended_with (laid.head j) i (count j) stop) ∙ ap (λ (r : Batch). batched start (done r)) (sym all),
+        (λ j. Ok (record { frames = i; lines = count j; stop = stop })) ∙ ap (λ (r : Batch). batch_answer (Ok r)) (sym all),
         (
-          laid.times ∙ ap (λ (r : Batch). times_in r.outcome.after) (sym all),
+          laid.head ∙ ap (λ (r : Batch). head_of r.outcome.after) (sym all),
           (
-            laid.tags ∙ ap (λ (r : Batch). tags_in r.outcome.after) (sym all),
-            g.list ∙ ap (λ (k : ℕ). written g.told ++ drop k lines₀) count
-                ∙ ap (λ (r : Batch). written r.outcome.lines ++ drop (length r.outcome.lines) lines₀) (sym all),
+            laid.times ∙ ap (λ (r : Batch). times_in r.outcome.after) (sym all),
+            (
+              laid.tags ∙ ap (λ (r : Batch). tags_in r.outcome.after) (sym all),
+              g.list ∙ ap (λ (k : ℕ). written g.told ++ drop k lines₀) count
+                  ∙ ap (λ (r : Batch). written r.outcome.lines ++ drop (length r.outcome.lines) lines₀) (sym all),
+            ),
           ),
         ),
       )
 
   -- every frame is accepted
-  pub ends : drop i fs ≡ [] → (start : Head) → {r : Batched} → r ≡ ended_with h i at Nothing → IsFinished start r ts gs lines
+  pub ends : drop i fs ≡ [] → (start : Head) → IsFinished start (record { frames = i; lines = at; stop = None }) h ts gs lines
   unfolding append_each
-  ends none start d =
-      let l = finishes Nothing (g.rest ∙ ap (λ (l : List Offered). onwards i g.told (append_each l held)) none) start in
-      (d ∙ l.0, l.1)
+  ends none start = finishes None (g.rest ∙ ap (λ (l : List Offered). onwards i g.told (append_each l held)) none) start
 
   -- ---- the next frame
 
@@ -161,25 +163,27 @@ module _ (b : Buffer) (fs : List Offered) (lines₀ : List (List ℕ)) (i : ℕ)
         ∙ ap (λ (y : CallResult Outcome). onwards i g.told (following_batch (append_each (drop (i + 1) fs)) held y)) e
 
     -- a frame that is refused changes nothing, and the batch ends
-    pub stops : (x : CallResult Outcome) → append places f held ≡ x → is_done (counted h x).answer ≡ false → (start : Head)
-        → {r : Batched} {ts' : List (List ℤ)} {gs' lines' : List (List ℕ)} → r ≡ ended_with h i at (stop_by (counted h x).answer)
-        → ts' ≡ times_after x ts → gs' ≡ tags_after x gs → lines' ≡ take at lines ++ list_after x (drop at lines) → IsFinished start r ts' gs' lines'
-    stops (refused why) e other start d p q t =
-        let l = finishes (By why) (step (refused why) e) start in
-        (d ∙ l.0, (p ∙ l.1.0, (q ∙ l.1.1.0, t ∙ take-append-drop at lines ∙ l.1.1.1)))
-    stops (done o) e other start d p q t = clash other
+    pub stops : (x : CallResult Outcome) → append places f held ≡ x → (why : Refusal) → Err why ≡ line_count x → (start : Head)
+        → {h' : Head} {ts' : List (List ℤ)} {gs' lines' : List (List ℕ)}
+        → h' ≡ head_after x h → ts' ≡ times_after x ts → gs' ≡ tags_after x gs → lines' ≡ take at lines ++ list_after x (drop at lines)
+        → IsFinished start (record { frames = i; lines = at; stop = Some why }) h' ts' gs' lines'
+    stops (Err w) e why d start o p q t =
+        let same : why ≡ w = ap (λ (r : Result ℕ Refusal). why_in r why) d in
+        let l = finishes (Some w) (step (Err w) e) start in
+        ((λ j. Ok (record { frames = i; lines = at; stop = Some (same j) })) ∙ l.0, (o ∙ l.1.0, (p ∙ l.1.1.0, (q ∙ l.1.1.1.0, t ∙ take-append-drop at lines ∙ l.1.1.1.1))))
+    stops (Ok o) e why d start p q r t = clash (sym (ap is_done d))
 
     -- the lines of one that is accepted, and its track
-    pub lines-few : (x : CallResult Outcome) → append places f held ≡ x → (n : ℕ) → (counted h x).answer ≡ Count.Done n → n ≤ h.nframes + 1
-    lines-few (refused why) e n d = clash (sym (ap is_done d))
-    lines-few (done o) e n d =
-        let told : length o.lines ≡ n = ap count_in d in
+    pub lines-few : (x : CallResult Outcome) → append places f held ≡ x → (n : ℕ) → Ok n ≡ line_count x → n ≤ h.nframes + 1
+    lines-few (Err why) e n d = clash (ap is_done d)
+    lines-few (Ok o) e n d =
+        let told : n ≡ length o.lines = ap count_in d in
         omega (arith, told, append-count held f places o e, held-count h ts gs g.whole)
 
-    pub track-kept : (x : CallResult Outcome) → append places f held ≡ x → (n : ℕ) → (counted h x).answer ≡ Count.Done n → {k : Head} → k ≡ (counted h x).head → HasTrack k f.track
+    pub track-kept : (x : CallResult Outcome) → append places f held ≡ x → (n : ℕ) → Ok n ≡ line_count x → {k : Head} → k ≡ head_after x h → HasTrack k f.track
     unfolding reply_to
-    track-kept (refused why) e n d p = clash (sym (ap is_done d))
-    track-kept (done o) e n d {k} p =
+    track-kept (Err why) e n d p = clash (ap is_done d)
+    track-kept (Ok o) e n d {k} p =
         let kinds : kinds_of o.after ≡ kinds_of held = ap (λ (x : CallResult Outcome). kinds_of (by_outcome held x).after) (sym e) ∙ reply-kinds (append_call places f) held in
         let width : length o.after.tracks ≡ length held.tracks = sym (length-map o.after.tracks _) ∙ ap length kinds ∙ length-map held.tracks _ in
         let count : k.ntracks ≡ length o.after.tracks = ap (λ (x : Head). x.ntracks) p in
@@ -187,22 +191,22 @@ module _ (b : Buffer) (fs : List Offered) (lines₀ : List (List ℕ)) (i : ℕ)
         (accepted-from places f held o e, omega (arith, accepted-to places f held o e, width, count), omega (arith, width, count, few))
 
     -- one that is accepted
-    pub goes : (x : CallResult Outcome) → append places f held ≡ x → (n : ℕ) → (counted h x).answer ≡ Count.Done n
-        → {h' : Head} {ts' : List (List ℤ)} {gs' : List (List ℕ)} {bounds' : List Bound} {lines' : List (List ℕ)}
-        → h' ≡ (counted h x).head → ts' ≡ times_after x ts → gs' ≡ tags_after x gs → lines' ≡ take at lines ++ list_after x (drop at lines)
+    pub goes : (x : CallResult Outcome) → append places f held ≡ x → (n : ℕ) → Ok n ≡ line_count x
+        → {h' : Head} {ts' : List (List ℤ)} {gs' : List (List ℕ)} {bounds' : List ℤ} {lines' : List (List ℕ)}
+        → h' ≡ head_after x h → ts' ≡ times_after x ts → gs' ≡ tags_after x gs → lines' ≡ take at lines ++ list_after x (drop at lines)
         → Raised bounds bounds' → ((c : Buffer) → h' ≡ head_of c → le_z (track_of c f.track).end (bound_at bounds' f.track) ≡ true)
         → Going b fs lines₀ (i + 1) h' ts' gs' bounds' (at + n) lines'
-    goes (refused why) e n d p q r t up high = clash (sym (ap is_done d))
-    goes (done o) e n d {h'} {ts'} {gs'} {bounds'} {lines'} p q r t up high =
+    goes (Err why) e n d p q r t up high = clash (ap is_done d)
+    goes (Ok o) e n d {h'} {ts'} {gs'} {bounds'} {lines'} p q r t up high =
         let good = append-good held f places o e (lent-good h ts gs g.whole) in
         let back : buffer_of (state_at h' ts' gs') ≡ o.after = (λ j. buffer_of (state_at (p j) (q j) (r j))) ∙ held_back o.after in
-        let told : length o.lines ≡ n = ap count_in d in
+        let told : length o.lines ≡ n = sym (ap count_in d) in
         let stored : h'.nframes ≡ length o.after.frames = ap (λ (k : Head). k.nframes) p in
         record {
           whole = (λ j. well_formed_at (p j) (q j) (r j)) ∙ laid-well_formed o.after good;
           told = g.told ++ o.lines;
           rest =
-              step (done o) e ∙ onwards-more i g.told o (append_each (drop (i + 1) fs) o.after)
+              step (Ok o) e ∙ onwards-more i g.told o (append_each (drop (i + 1) fs) o.after)
               ∙ ap (λ (c : Buffer). onwards (i + 1) (g.told ++ o.lines) (append_each (drop (i + 1) fs) c)) (sym back);
           count = omega (arith, g.count, told, length-append g.told o.lines);
           list =
@@ -214,12 +218,3 @@ module _ (b : Buffer) (fs : List Offered) (lines₀ : List (List ℕ)) (i : ℕ)
               subst (λ (c : Buffer). IsBounded bounds' c.frames) (sym back)
               (after-bounded places f held o e bounds bounds' g.bounded up (high o.after p));
         }
-
-    -- one that is stored without a line
-    pub goes-quietly : (c : Buffer) → append places f held ≡ done (record { after = c; lines = [] })
-        → {h' : Head} {ts' : List (List ℤ)} {gs' : List (List ℕ)} {bounds' : List Bound} → h' ≡ head_of c → ts' ≡ times_in c → gs' ≡ tags_in c
-        → Raised bounds bounds' → ((d : Buffer) → h' ≡ head_of d → le_z (track_of d f.track).end (bound_at bounds' f.track) ≡ true)
-        → Going b fs lines₀ (i + 1) h' ts' gs' bounds' at lines
-    goes-quietly c e {h'} {ts'} {gs'} {bounds'} p q r up high =
-        subst (λ (k : ℕ). Going b fs lines₀ (i + 1) h' ts' gs' bounds' k lines) (add-zero at)
-        (goes (done (record { after = c; lines = [] })) e 0 refl p q r (sym (take-append-drop at lines)) up high)

@@ -1,5 +1,5 @@
--- Laws of the definitions of specs/Boxes.antt: numbers at a place, what a head that was found fits, and how a list of boxes opens at its
--- first box. Assumes nothing.
+-- Laws of the definitions of specs/Boxes.antt and specs/Items.antt: numbers at a place, what a head that was found fits, and how a list of
+-- boxes opens at its first box. Assumes nothing.
 use mathlib.Core.Path.{◌≡◌, refl, sym, ap, ◌∙◌}
 use mathlib.Core.List.{List, [], ◌∷◌}
 use Prim.Native.Nat.{ℕ, zero, suc, ◌+◌, ◌*◌, ◌-◌, ◌≤◌, ◌<◌}
@@ -7,16 +7,15 @@ use native.Mathlib.Omega.{arith}
 use native.Mathlib.Nat.{add-zero}
 use borrow.Author.Tests.{leb-true}
 use Rattle.laws.proofs.BoolLaws.{by-test}
-use lib.ListN.{length, get_or, take, drop, length-drop}
-use lib.Seq.{get_or-drop, drop-drop, take_all}
+use lib.ListN.{length, get_or, take, drop}
+use lib.Seq.{get_or-drop, drop-drop}
 use lib.Dec.{ltb, leb, eqb}
-use Rattle.boxes.specs.Boxes.{be4, be8, sized_of, front_of, placed_step, step_at, refused, boxes, onto, box_of, skipping, boxes_of}
-use Rattle.boxes.specs.declared.Cursor.{Cursor}
+use Rattle.std.specs.Prelude.{Option, Some, None, Result, Ok, Err}
+use Rattle.std.specs.Int.{w32, w64, from_be_bytes}
 use Rattle.boxes.specs.declared.Header.{Header}
-use Rattle.boxes.specs.declared.Front.{Front}
-use Rattle.boxes.specs.declared.Front.TheVariants.{End, Bad, Found}
-use Rattle.boxes.specs.declared.Step.{Step}
-use Rattle.boxes.specs.declared.Step.TheVariants as step
+use Rattle.boxes.specs.declared.Malformed.{Malformed}
+use Rattle.boxes.specs.Boxes.{be4, be8, Mp4Box, refused, sized_of, front_of, onto, box_of, split_front, step_of, following_boxes, skipping, boxes_of}
+use Rattle.boxes.specs.Items.{following_items, items_past, items_of, collected}
 
 -- the number in 4 bytes from a place on, by its bytes
 pub be4-at : (s : List ℕ) (at : ℕ) → be4 (drop at s) ≡ get_or s at 0 * 16777216 + get_or s (at + 1) 0 * 65536 + get_or s (at + 2) 0 * 256 + get_or s (at + 3) 0
@@ -28,16 +27,40 @@ pub be8-at : (s : List ℕ) (at : ℕ) → be8 (drop at s) ≡ be4 (drop at s) *
 unfolding be8
 be8-at s at = simp drop-drop
 
+-- and as std reads them
+pub be4_read : (s : List ℕ) → 4 ≤ length s → from_be_bytes w32 (take 4 s) ≡ be4 s
+unfolding be4
+be4_read (a ∷ b ∷ c ∷ d ∷ s) h = omega arith
+be4_read [] h = absurd (omega arith)
+be4_read (a ∷ []) h = absurd (omega arith)
+be4_read (a ∷ b ∷ []) h = absurd (omega arith)
+be4_read (a ∷ b ∷ c ∷ []) h = absurd (omega arith)
+
+pub be8_read : (s : List ℕ) → 8 ≤ length s → from_be_bytes w64 (take 8 s) ≡ be8 s
+unfolding be4 be8
+be8_read (a ∷ b ∷ c ∷ d ∷ s) h = low s (omega arith)
+  where
+    low : (r : List ℕ) → 4 ≤ length r → from_be_bytes w64 (take 8 (a ∷ b ∷ c ∷ d ∷ r)) ≡ be8 (a ∷ b ∷ c ∷ d ∷ r)
+    low (e ∷ f ∷ g ∷ i ∷ r) k = omega arith
+    low [] k = absurd (omega arith)
+    low (e ∷ []) k = absurd (omega arith)
+    low (e ∷ f ∷ []) k = absurd (omega arith)
+    low (e ∷ f ∷ g ∷ []) k = absurd (omega arith)
+be8_read [] h = absurd (omega arith)
+be8_read (a ∷ []) h = absurd (omega arith)
+be8_read (a ∷ b ∷ []) h = absurd (omega arith)
+be8_read (a ∷ b ∷ c ∷ []) h = absurd (omega arith)
+
 -- what a head that was found fits: the header has at least 8 bytes, and lies in the box, which lies in the list
 pub record Inside (n : ℕ) (h : Header) : Type 0 where
   pub least : 8 ≤ h.length
   pub length : h.length ≤ h.size
   pub size : h.size ≤ n
 
-abbrev Fitting : ℕ → Front → Type 0
-Fitting n End = Unit {0}
-Fitting n Bad = Unit {0}
-Fitting n (Found h) = Inside n h
+abbrev Fitting : ℕ → Result (Option Header) Malformed → Type 0
+Fitting n (Ok None) = Unit {0}
+Fitting n (Err e) = Unit {0}
+Fitting n (Ok (Some h)) = Inside n h
 
 sized-fitting : (s : List ℕ) (header size : ℕ) → 8 ≤ header → Fitting (length s) (sized_of s header size)
 sized-fitting s header size k =
@@ -53,7 +76,7 @@ front-fitting s =
     (λ _. by-test (Fitting (length s)) (ltb (length s) 16) (λ _. tt) (λ _. sized-fitting s 16 (be8 (drop 8 s)) (omega arith)))
     (λ _. sized-fitting s 8 (be4 s) (omega arith))))
 
-pub found_inside : (s : List ℕ) (h : Header) → front_of s ≡ Found h → Inside (length s) h
+pub found_inside : (s : List ℕ) (h : Header) → front_of s ≡ Ok (Some h) → Inside (length s) h
 found_inside s h e = rw e at (front-fitting s)
 
 drop-less : (n b : ℕ) (s : List ℕ) → 0 < n → drop n (b ∷ s) ≡ drop (n - 1) s
@@ -69,7 +92,7 @@ skipping-drop (b ∷ s) zero h = refl
 skipping-drop (b ∷ s) (suc k) h = skipping-drop s k (omega arith)
 
 -- how a list opens: at a head that was found, its box and then the boxes of the rest
-pub boxes-found : (s : List ℕ) (h : Header) → front_of s ≡ Found h → boxes_of s ≡ onto (box_of s h) (boxes_of (drop h.size s))
+pub boxes-found : (s : List ℕ) (h : Header) → front_of s ≡ Ok (Some h) → boxes_of s ≡ onto (box_of s h) (boxes_of (drop h.size s))
 unfolding skipping
 boxes-found [] h e = let z : ◌≡◌ {A = ℕ} 0 1 = cc in absurd (omega arith)
 boxes-found (b ∷ s) h e =
@@ -77,71 +100,59 @@ boxes-found (b ∷ s) h e =
     rw e (ap (onto (box_of (b ∷ s) h)) (skipping-drop s (h.size - 1) (omega arith) ∙ ap boxes_of (sym (drop-less h.size b s (omega arith)))))
 
 -- where no box stands, it is refused
-pub boxes-bad : (s : List ℕ) → front_of s ≡ Bad → boxes_of s ≡ refused
+pub boxes-bad : (s : List ℕ) → front_of s ≡ refused → boxes_of s ≡ refused
 unfolding skipping
 boxes-bad [] e = let z : ◌≡◌ {A = ℕ} 0 1 = cc in absurd (omega arith)
 boxes-bad (b ∷ s) e = rw e
 
 -- where nothing is left, there are no boxes
-pub boxes-end : (s : List ℕ) → front_of s ≡ End → boxes_of s ≡ boxes []
+pub boxes-end : (s : List ℕ) → front_of s ≡ Ok None → boxes_of s ≡ Ok []
 unfolding skipping
 boxes-end [] e = refl
 boxes-end (b ∷ s) e = rw e
 
--- the part `&s[at..]` is what is left from there
-pub rest-is : (s : List ℕ) (at : ℕ) → take (length s - at) (drop at s) ≡ drop at s
-rest-is s at = take_all (length s - at) (drop at s) (rw length-drop (omega arith))
+-- ---- the items of a loop
 
--- ONE TURN OF ANY LOOP OVER BOXES, from what `next` says: the boxes that are left open at the box that was found, whose body is the part
--- `&s[a..z]`; the places are in order, and the next one is further on.
-pub record Opened (s : List ℕ) (c : Cursor) (k a z : ℕ) (n : Cursor) : Type 0 where
-  pub opens : boxes_of (drop c.at s) ≡ onto (record { kind = k; body = take (z - a) (drop a s) }) (boxes_of (drop n.at s))
-  pub start : a ≤ z
-  pub end : z ≤ length s
-  pub further : c.at < n.at
-  pub within : n.at ≤ length s
+-- to go past bytes is to drop them
+pub items_past-drop : (s : List ℕ) (k : ℕ) → k ≤ length s → items_past s k ≡ items_of (drop k s)
+unfolding items_past
+items_past-drop [] zero h = refl
+items_past-drop [] (suc k) h = absurd (omega arith)
+items_past-drop (b ∷ s) zero h = refl
+items_past-drop (b ∷ s) (suc k) h = items_past-drop s k (omega arith)
 
-abbrev OpenedStep : List ℕ → Cursor → Step → Type 0
-OpenedStep s c step.End = Unit {0}
-OpenedStep s c step.Bad = Unit {0}
-OpenedStep s c (step.Found k a z n) = Opened s c k a z n
+-- the items that a step leads to
+abbrev pub after_step : Result (Option (Mp4Box × List ℕ)) Malformed → List (Result Mp4Box Malformed)
+after_step (Ok None) = []
+after_step (Ok (Some x)) = Ok x.0 ∷ items_of x.1
+after_step (Err e) = Err e ∷ []
 
-at_head : (s : List ℕ) (c : Cursor) (h : Header) → c.at ≤ length s → front_of (drop c.at s) ≡ Found h
-    → Opened s c h.kind (c.at + h.length) (c.at + h.size) (record { at = c.at + h.size })
-at_head s c h k e =
-    let i = found_inside (drop c.at s) h e in
-    let l : h.size ≤ length s - c.at = rw length-drop at i.size in
-    let w : c.at + h.size - (c.at + h.length) ≡ h.size - h.length = omega arith in
-    record {
-      opens = boxes-found (drop c.at s) h e ∙ simp (drop-drop, w);
-      start = omega arith;
-      end = omega arith;
-      further = omega arith;
-      within = omega arith;
-    }
-
-pub opened : (s : List ℕ) (c : Cursor) (k a z : ℕ) (n : Cursor) → c.at ≤ length s → step_at s c ≡ step.Found k a z n → Opened s c k a z n
-opened s c k a z n h e = rw e at (go (front_of (drop c.at s)) refl)
+-- what comes of bytes is their first item and what comes of the rest
+pub items_of_step : (s : List ℕ) → items_of s ≡ after_step (step_of s)
+unfolding items_past
+items_of_step [] = refl
+items_of_step (b ∷ s) = go (front_of (b ∷ s)) refl
   where
-    go : (f : Front) → front_of (drop c.at s) ≡ f → OpenedStep s c (placed_step c.at f)
-    go End p = tt
-    go Bad p = tt
-    go (Found g) p = at_head s c g h p
+    go : (f : Result (Option Header) Malformed) → front_of (b ∷ s) ≡ f → items_of (b ∷ s) ≡ after_step (split_front (b ∷ s) f)
+    go (Ok None) e = rw e
+    go (Err x) e = rw e
+    go (Ok (Some h)) e =
+        let i = found_inside (b ∷ s) h e in
+        rw e (ap (λ (l : List (Result Mp4Box Malformed)). Ok (box_of (b ∷ s) h) ∷ l) (items_past-drop s (h.size - 1) (omega arith) ∙ ap items_of (sym (drop-less h.size b s (omega arith)))))
 
--- the same where nothing is left, and where no box stands
-module _ (s : List ℕ) (c : Cursor) where
-  pub opened-end : step_at s c ≡ step.End → boxes_of (drop c.at s) ≡ boxes []
-  opened-end e = go (front_of (drop c.at s)) refl e
-    where
-      go : (f : Front) → front_of (drop c.at s) ≡ f → placed_step c.at f ≡ step.End → boxes_of (drop c.at s) ≡ boxes []
-      go End p q = boxes-end (drop c.at s) p
-      go Bad p q = let z : ◌≡◌ {A = ℕ} 0 1 = cc in absurd (omega arith)
-      go (Found h) p q = let z : ◌≡◌ {A = ℕ} 0 1 = cc in absurd (omega arith)
+-- the items are the boxes, or the fault among them
+items-past-collected : (s : List ℕ) (k : ℕ) → collected (items_past s k) ≡ skipping s k
+unfolding items_past skipping
+items-past-collected [] zero = refl
+items-past-collected [] (suc k) = refl
+items-past-collected (b ∷ s) (suc k) = items-past-collected s k
+items-past-collected (b ∷ s) zero = go (front_of (b ∷ s)) (items-past-collected s)
+  where
+    go : (f : Result (Option Header) Malformed) → ((k : ℕ) → collected (items_past s k) ≡ skipping s k)
+        → collected (following_items (b ∷ s) f (λ k. items_past s k)) ≡ following_boxes (b ∷ s) f (λ k. skipping s k)
+    go (Ok None) rest = refl
+    go (Err x) rest = refl
+    go (Ok (Some h)) rest = ap (onto (box_of (b ∷ s) h)) (rest (h.size - 1))
 
-  pub opened-bad : step_at s c ≡ step.Bad → boxes_of (drop c.at s) ≡ refused
-  opened-bad e = go (front_of (drop c.at s)) refl e
-    where
-      go : (f : Front) → front_of (drop c.at s) ≡ f → placed_step c.at f ≡ step.Bad → boxes_of (drop c.at s) ≡ refused
-      go End p q = let z : ◌≡◌ {A = ℕ} 0 1 = cc in absurd (omega arith)
-      go Bad p q = boxes-bad (drop c.at s) p
-      go (Found h) p q = let z : ◌≡◌ {A = ℕ} 0 1 = cc in absurd (omega arith)
+pub items_are : (s : List ℕ) → collected (items_of s) ≡ boxes_of s
+items_are s = items-past-collected s 0

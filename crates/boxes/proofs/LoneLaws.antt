@@ -1,89 +1,68 @@
--- The loop's way of finding the one box is the definition's; and what its answer says. Assumes nothing.
-use mathlib.Core.Path.{◌≡◌, refl, sym, ap, ◌∙◌, subst}
-use mathlib.Core.Bool.{Bool, true, false, cond, ◌||◌}
+-- The loop's way of finding the one box is the definition's; and what that says of a type that must not stand after itself. Assumes nothing.
+use mathlib.Core.Path.{◌≡◌, refl, ◌∙◌, ap}
+use mathlib.Core.Bool.{Bool, true, false, cond, ◌||◌, ◌&&◌}
 use mathlib.Core.List.{List, [], ◌∷◌}
-use Prim.Native.Nat.{ℕ, ◌-◌, ◌≤◌}
-use lib.ListN.{length, take, drop}
+use Prim.Native.Nat.{ℕ}
 use lib.Dec.{eqb}
-use Rattle.boxes.specs.Boxes.{Mp4Box, Boxes, refused, boxes}
-use Rattle.boxes.specs.Folds.{over, folded}
-use Rattle.boxes.specs.Lone.{Lone, none, lone, has, lone_of, lone_in, part_of, held_by, Within}
-use Rattle.boxes.specs.declared.Part.{Part}
-use Rattle.boxes.specs.declared.Part.TheVariants as part
-
--- what the loop knows: no box of the type yet, the one so far, or that there is no such one
-pub data Sought : Type 0 where
-  nothing : Sought
-  one : List ℕ → Sought
-  wrong : Sought
-
--- what it tells at the end
-abbrev pub told : Sought → Lone
-told nothing = none
-told (one b) = lone b
-told wrong = none
+use Rattle.std.specs.Prelude.{Some, None, Result, Ok, Err}
+use Rattle.boxes.specs.declared.Malformed.{Malformed}
+use Rattle.boxes.specs.Boxes.{Mp4Box, refused, onto, boxes_of}
+use Rattle.boxes.specs.Items.{items_of, collected}
+use Rattle.boxes.specs.Lone.{has, lone_of, lone_in, lone_among}
+use Rattle.boxes.proofs.BoxLaws.{items_are}
 
 module _ (k r : ℕ) where
-  -- one more box
-  abbrev pub met : Sought → Mp4Box → Sought
-  met nothing x = cond (eqb x.kind k) (one x.body) (cond (eqb x.kind r) wrong nothing)
-  met (one b) x = cond (eqb x.kind k) wrong (one b)
-  met wrong x = wrong
+  -- where a body was met, that there is no further box of its type
+  abbrev lone_after : List ℕ → Result (List Mp4Box) Malformed → Result (List ℕ) Malformed
+  lone_after b (Err e) = Err e
+  lone_after b (Ok l) = cond (has k l) refused (Ok b)
 
-  pub met-wrong : (x : Mp4Box) → met wrong x ≡ wrong
-  met-wrong x = refl
-
-  over-wrong : (l : List Mp4Box) → told (over met wrong l) ≡ none
-  over-wrong [] = refl
-  over-wrong (x ∷ l) = over-wrong l
-
-  over-one : (b : List ℕ) (l : List Mp4Box) → told (over met (one b) l) ≡ cond (has k l) none (lone b)
-  over-one b [] = refl
-  over-one b (x ∷ l) = go (eqb x.kind k) (over-one b l)
+  after-met : (b : List ℕ) (items : List (Result Mp4Box Malformed)) → lone_among k r (Some b) items ≡ lone_after b (collected items)
+  unfolding lone_among
+  after-met b [] = refl
+  after-met b (Err e ∷ items) = refl
+  after-met b (Ok x ∷ items) = on (collected items) (after-met b items)
     where
-      go : (t : Bool) → told (over met (one b) l) ≡ cond (has k l) none (lone b) → told (over met (cond t wrong (one b)) l) ≡ cond (t || has k l) none (lone b)
-      go true h = over-wrong l
-      go false h = h
+      wrong : (t u : Bool) (m : Result (List ℕ) Malformed) (e : Malformed) → m ≡ Err e → cond t refused (cond (u && false) refused m) ≡ Err e
+      wrong true u m e h = refl
+      wrong false true m e h = h
+      wrong false false m e h = h
 
-  over_nothing : (l : List Mp4Box) → told (over met nothing l) ≡ lone_of k r l
-  over_nothing [] = refl
-  over_nothing (x ∷ l) = go (eqb x.kind k) (eqb x.kind r) (over_nothing l)
+      more : (t u : Bool) (m : Result (List ℕ) Malformed) (l : List Mp4Box) → m ≡ cond (has k l) refused (Ok b)
+          → cond t refused (cond (u && false) refused m) ≡ cond (t || has k l) refused (Ok b)
+      more true u m l h = refl
+      more false true m l h = h
+      more false false m l h = h
+
+      on : (y : Result (List Mp4Box) Malformed) → lone_among k r (Some b) items ≡ lone_after b y → lone_among k r (Some b) (Ok x ∷ items) ≡ lone_after b (onto x y)
+      on (Err e) h = wrong (eqb x.kind k) (eqb x.kind r) (lone_among k r (Some b) items) e h
+      on (Ok l) h = more (eqb x.kind k) (eqb x.kind r) (lone_among k r (Some b) items) l h
+
+  none-met : (items : List (Result Mp4Box Malformed)) → lone_among k r None items ≡ lone_in k r (collected items)
+  unfolding lone_among
+  none-met [] = refl
+  none-met (Err e ∷ items) = refl
+  none-met (Ok x ∷ items) = on (collected items) (after-met x.body items) (none-met items)
     where
-      go : (t u : Bool) → told (over met nothing l) ≡ lone_of k r l
-          → told (over met (cond t (one x.body) (cond u wrong nothing)) l) ≡ cond t (cond (has k l) none (lone x.body)) (cond u none (lone_of k r l))
-      go true u h = over-one x.body l
-      go false true h = over-wrong l
-      go false false h = h
+      wrong : (t u : Bool) (m n : Result (List ℕ) Malformed) (e : Malformed) → m ≡ Err e → n ≡ Err e → cond t m (cond (u && true) refused n) ≡ Err e
+      wrong true u m n e g h = g
+      wrong false true m n e g h = refl
+      wrong false false m n e g h = h
 
-  -- so the loop's answer from the start is the definition's
-  pub from_start : (y : Boxes) → told (folded met wrong nothing y) ≡ lone_in k r y
-  from_start refused = refl
-  from_start (boxes l) = over_nothing l
+      more : (t u : Bool) (m n : Result (List ℕ) Malformed) (l : List Mp4Box) → m ≡ cond (has k l) refused (Ok x.body) → n ≡ lone_of k r l
+          → cond t m (cond (u && true) refused n) ≡ cond t (cond (has k l) refused (Ok x.body)) (cond u refused (lone_of k r l))
+      more true u m n l g h = g
+      more false true m n l g h = refl
+      more false false m n l g h = h
 
--- what the loop holds: whether it has found a box, and where its body is
-abbrev pub sought_by : List ℕ → Bool → ℕ → ℕ → Sought
-sought_by s found a z = cond found (one (take (z - a) (drop a s))) nothing
+      on : (y : Result (List Mp4Box) Malformed) → lone_among k r (Some x.body) items ≡ lone_after x.body y → lone_among k r None items ≡ lone_in k r y
+          → lone_among k r None (Ok x ∷ items) ≡ lone_in k r (onto x y)
+      on (Err e) g h = wrong (eqb x.kind k) (eqb x.kind r) (lone_among k r (Some x.body) items) (lone_among k r None items) e g h
+      on (Ok l) g h = more (eqb x.kind k) (eqb x.kind r) (lone_among k r (Some x.body) items) (lone_among k r None items) l g h
 
-pub told-sought : (s : List ℕ) (found : Bool) (a z : ℕ) → told (sought_by s found a z) ≡ held_by s (part_of found a z)
-told-sought s true a z = refl
-told-sought s false a z = refl
-
--- a box of neither type changes nothing, whatever was found
-pub met-other : (k r : ℕ) (s : List ℕ) (found : Bool) (a z : ℕ) (x : Mp4Box) → eqb x.kind k ≡ false → eqb x.kind r ≡ false
-    → met k r (sought_by s found a z) x ≡ sought_by s found a z
-met-other k r s true a z x p q = rw p
-met-other k r s false a z x p q = rw (p, q)
-
--- ---- for those who call it: what a part that was found, or was not, says
-
-pub lone-none : (s : List ℕ) (p : Part) (x : Lone) → held_by s p ≡ x → p ≡ part.None → x ≡ none
-lone-none s p x e q = sym e ∙ ap (held_by s) q
-
-pub lone-body : (s : List ℕ) (p : Part) (x : Lone) (a z : ℕ) → held_by s p ≡ x → p ≡ part.Is a z → x ≡ lone (take (z - a) (drop a s))
-lone-body s p x a z e q = sym e ∙ ap (held_by s) q
-
-pub lone-within : (s : List ℕ) (p : Part) (a z : ℕ) → Within s p → p ≡ part.Is a z → (a ≤ z) × (z ≤ length s)
-lone-within s p a z h q = subst (Within s) q h
+-- so the loop's answer from the start is the definition's
+pub among_all : (k r : ℕ) (s : List ℕ) → lone_among k r None (items_of s) ≡ lone_in k r (boxes_of s)
+among_all k r s = none-met k r (items_of s) ∙ ap (lone_in k r) (items_are s)
 
 -- ---- a type that must not stand after itself: there is exactly one box of it
 
@@ -91,17 +70,17 @@ abbrev pub bodies_of : ℕ → List Mp4Box → List (List ℕ)
 bodies_of k [] = []
 bodies_of k (x ∷ l) = cond (eqb x.kind k) (x.body ∷ bodies_of k l) (bodies_of k l)
 
-abbrev pub the_only : List (List ℕ) → Lone
-the_only [] = none
-the_only (b ∷ []) = lone b
-the_only (b ∷ (b' ∷ l)) = none
+abbrev pub the_only : List (List ℕ) → Result (List ℕ) Malformed
+the_only [] = refused
+the_only (b ∷ []) = Ok b
+the_only (b ∷ (b' ∷ l)) = refused
 
-any-more : (k : ℕ) (b : List ℕ) (l : List Mp4Box) → cond (has k l) none (lone b) ≡ the_only (b ∷ bodies_of k l)
+any-more : (k : ℕ) (b : List ℕ) (l : List Mp4Box) → cond (has k l) refused (Ok b) ≡ the_only (b ∷ bodies_of k l)
 any-more k b [] = refl
 any-more k b (x ∷ l) = go (eqb x.kind k) (any-more k b l)
   where
-    go : (t : Bool) → cond (has k l) none (lone b) ≡ the_only (b ∷ bodies_of k l)
-        → cond (t || has k l) none (lone b) ≡ the_only (b ∷ cond t (x.body ∷ bodies_of k l) (bodies_of k l))
+    go : (t : Bool) → cond (has k l) refused (Ok b) ≡ the_only (b ∷ bodies_of k l)
+        → cond (t || has k l) refused (Ok b) ≡ the_only (b ∷ cond t (x.body ∷ bodies_of k l) (bodies_of k l))
     go true h = refl
     go false h = h
 
@@ -110,6 +89,6 @@ lone-by-itself k [] = refl
 lone-by-itself k (x ∷ l) = go (eqb x.kind k) (lone-by-itself k l)
   where
     go : (t : Bool) → lone_of k k l ≡ the_only (bodies_of k l)
-        → cond t (cond (has k l) none (lone x.body)) (cond t none (lone_of k k l)) ≡ the_only (cond t (x.body ∷ bodies_of k l) (bodies_of k l))
+        → cond t (cond (has k l) refused (Ok x.body)) (cond t refused (lone_of k k l)) ≡ the_only (cond t (x.body ∷ bodies_of k l) (bodies_of k l))
     go true h = any-more k x.body l
     go false h = h

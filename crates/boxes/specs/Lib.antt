@@ -1,3 +1,4 @@
 pub mod Boxes
 pub mod Folds
+pub mod Items
 pub mod Lone

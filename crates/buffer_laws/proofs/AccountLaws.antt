@@ -1,6 +1,7 @@
 -- The account of the plain run, for every list of calls on a buffer whose creation was not refused: each number from 1 to the last
 -- given is found exactly once, no other is found, and on each track offered equals stored plus dropped plus removed.
 -- Both follow from the run's law by one choice each of the weight of a number.
+use Rattle.std.specs.Prelude.{Ok}
 use mathlib.Core.Path.{◌≡◌, refl, sym, ap, ap₂, ◌∙◌}
 use mathlib.Core.Bool.{Bool, true, false, cond, ◌&&◌}
 use mathlib.Core.List.{List, [], ◌∷◌, ◌++◌, append_assoc}
@@ -14,7 +15,6 @@ use borrow.Author.Tests.{leb-true, leb-false, eqb-true, eqb-false, lt-ltb, le-lt
 use Rattle.laws.proofs.BoolLaws.{split, and_left, and_right}
 use Rattle.buffer_state.specs.declared.Frame.{Frame}
 use Rattle.buffer_state.specs.Buffer.{Buffer, fresh}
-use Rattle.buffer_state.specs.Refusals.{done}
 use Rattle.buffer_state.specs.Settings.{create}
 use Rattle.buffer_state.specs.Store.{Line}
 use Rattle.buffer_state.specs.Run.{Call, reply_to, lines_in, offered_by, run, last_of, handed_out, offers, track_offered, on_offered, total, count, found_stored, found_told, offered_on, stored_on, told_on, dropped_on, removed_on}
@@ -121,7 +121,7 @@ either true c e =
     (λ t. let h : 3 < c = leb-false c 3 t in rw (le-leb 1 c from, t, le-leb 4 c (omega arith), le-leb c 6 to))
 
 -- On each track offered equals stored plus dropped plus removed.
-pub tracks-balance : (kinds : List ℕ) (cs : List Call) (track : ℕ) → create kinds ≡ done (fresh kinds)
+pub tracks-balance : (kinds : List ℕ) (cs : List Call) (track : ℕ) → create kinds ≡ Ok (fresh kinds)
     → offered_on track (run (fresh kinds) cs)
     ≡ stored_on track (last_of (fresh kinds) cs) + (dropped_on track (run (fresh kinds) cs) + removed_on track (run (fresh kinds) cs))
 unfolding offered_on stored_on told_on count total

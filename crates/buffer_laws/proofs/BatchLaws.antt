@@ -1,4 +1,5 @@
 -- A batch is its appends up to the stop: what each append that is not refused does, a batch does, by one induction over its frames.
+use Rattle.std.specs.Prelude.{Option, None, Some, Ok, Err}
 use mathlib.Core.Path.{◌≡◌, refl, ap, ◌∙◌}
 use mathlib.Core.Bool.{Bool, true, false, ◌&&◌}
 use mathlib.Core.List.{List, [], ◌∷◌, ◌++◌, map}
@@ -8,13 +9,11 @@ use lib.ListN.{length, take, get_or, length-append}
 use borrow.Author.Tests.{le-ltb}
 use Rattle.buffer_state.specs.declared.Offered.{Offered}
 use Rattle.buffer_state.specs.declared.Refusal.{Refusal}
-use Rattle.buffer_state.specs.declared.Stop.{Stop}
-use Rattle.buffer_state.specs.declared.Stop.TheVariants.{Nothing, By}
 use Rattle.buffer_state.specs.Append.{Outcome, append}
 use Rattle.buffer_state.specs.Batch.{Batch, ended, onward, following_batch, append_each}
 use Rattle.buffer_state.specs.Buffer.{Buffer}
 use Rattle.buffer_state.specs.Limits.{places}
-use Rattle.buffer_state.specs.Refusals.{CallResult, refused, done}
+use Rattle.buffer_state.specs.Refusals.{CallResult}
 use Rattle.buffer_state.specs.Run.{Call, append_call, Answer, Reply, by_outcome, reply_to, Entry, run, last_of, lines_in, handed_out, total}
 use Rattle.buffer_state.specs.Store.{Line}
 use Rattle.buffer_state.specs.WellFormed.{all_of, good_buffer}
@@ -25,7 +24,7 @@ use Rattle.buffer_laws.proofs.CallLaws.{numbers_after, total-ones, IsLawful, sam
 
 -- ---- one append that is not refused
 
-module _ (b : Buffer) (f : Offered) (lent : ℕ) (o : Outcome) (e : append lent f b ≡ done o) where
+module _ (b : Buffer) (f : Offered) (lent : ℕ) (o : Outcome) (e : append lent f b ≡ Ok o) where
   one-lawful : OneLawful b f o
   one-lawful = if-done (OneLawful b f) (append lent f b) (append-lawful lent f b) e
 
@@ -40,9 +39,9 @@ module _ (b : Buffer) (f : Offered) (lent : ℕ) (o : Outcome) (e : append lent 
 -- ---- the induction
 
 module _ (P : List Offered → Buffer → Batch → Type 0)
-    (none : (b : Buffer) → P [] b (ended b Nothing))
-    (stop : (f : Offered) (fs : List Offered) (b : Buffer) (why : Refusal) → append places f b ≡ refused why → P (f ∷ fs) b (ended b (By why)))
-    (more : (f : Offered) (fs : List Offered) (b : Buffer) (o : Outcome) → append places f b ≡ done o
+    (none : (b : Buffer) → P [] b (ended b None))
+    (stop : (f : Offered) (fs : List Offered) (b : Buffer) (why : Refusal) → append places f b ≡ Err why → P (f ∷ fs) b (ended b (Some why)))
+    (more : (f : Offered) (fs : List Offered) (b : Buffer) (o : Outcome) → append places f b ≡ Ok o
     → P fs o.after (append_each fs o.after) → P (f ∷ fs) b (onward o (append_each fs o.after))) where
   pub by-appends : (fs : List Offered) (b : Buffer) → P fs b (append_each fs b)
   unfolding append_each
@@ -50,8 +49,8 @@ module _ (P : List Offered → Buffer → Batch → Type 0)
   by-appends (f ∷ fs) b = next (append places f b) refl (λ c. by-appends fs c)
     where
       next : (x : CallResult Outcome) → append places f b ≡ x → ((c : Buffer) → P fs c (append_each fs c)) → P (f ∷ fs) b (following_batch (append_each fs) b x)
-      next (refused why) e rest = stop f fs b why e
-      next (done o) e rest = more f fs b o e (rest o.after)
+      next (Err why) e rest = stop f fs b why e
+      next (Ok o) e rest = more f fs b o e (rest o.after)
 
 -- ---- what it keeps
 
@@ -63,7 +62,7 @@ each-lawful =
     (λ b. same b) (λ f fs b why e. same b) (λ f fs b o e rest. both-lawful (one-lawful b f places o e) rest)
 
 -- what every append that is not refused keeps of a buffer, a batch keeps
-pub each_keeps : (P : Buffer → Type 0) → ((f : Offered) (b : Buffer) (o : Outcome) → append places f b ≡ done o → P b → P o.after)
+pub each_keeps : (P : Buffer → Type 0) → ((f : Offered) (b : Buffer) (o : Outcome) → append places f b ≡ Ok o → P b → P o.after)
     → (fs : List Offered) (b : Buffer) → P b → P (append_each fs b).outcome.after
 each_keeps P one =
     by-appends (λ (fs : List Offered) (b : Buffer) (r : Batch). P b → P r.outcome.after)
@@ -90,13 +89,13 @@ abbrev pub not_refused : Entry → Bool
 not_refused e = is_done e.result
   where
     is_done : CallResult Answer → Bool
-    is_done (refused why) = false
-    is_done (done a) = true
+    is_done (Err why) = false
+    is_done (Ok a) = true
 
 -- What stops a batch after n frames of fs, on buffer c: nothing, as there is no more; or why the next frame is refused there.
-abbrev pub StoppedBy : List Offered → ℕ → Buffer → Stop → Type 0
-StoppedBy fs n c Nothing = n ≡ length fs
-StoppedBy fs n c (By why) = (n < length fs) × ((z : Offered) → append places (get_or fs n z) c ≡ refused why)
+abbrev pub StoppedBy : List Offered → ℕ → Buffer → Option Refusal → Type 0
+StoppedBy fs n c None = n ≡ length fs
+StoppedBy fs n c (Some why) = (n < length fs) × ((z : Offered) → append places (get_or fs n z) c ≡ Err why)
 
 -- a batch of fs on b that came to r, beside single appends of the frames that it accepted
 pub record AsAppends (fs : List Offered) (b : Buffer) (r : Batch) : Type 0 where
@@ -105,9 +104,9 @@ pub record AsAppends (fs : List Offered) (b : Buffer) (r : Batch) : Type 0 where
   pub done : all_of not_refused (run b (singly (take r.accepted fs))) ≡ true
   pub stop : StoppedBy fs r.accepted r.outcome.after r.stop
 
-stop-later : (f : Offered) (fs : List Offered) (n : ℕ) (c : Buffer) (s : Stop) → StoppedBy fs n c s → StoppedBy (f ∷ fs) (suc n) c s
-stop-later f fs n c Nothing e = ap suc e
-stop-later f fs n c (By why) e = (omega (arith, e.0), e.1)
+stop-later : (f : Offered) (fs : List Offered) (n : ℕ) (c : Buffer) (s : Option Refusal) → StoppedBy fs n c s → StoppedBy (f ∷ fs) (suc n) c s
+stop-later f fs n c None e = ap suc e
+stop-later f fs n c (Some why) e = (omega (arith, e.0), e.1)
 
 -- Document 02, No. 2: the outcome of a batch, its lines included, is that of appending its frames one by one up to the stop.
 pub batch-is-appends : (fs : List Offered) (b : Buffer) → AsAppends fs b (append_each fs b)
@@ -120,7 +119,7 @@ batch-is-appends =
     let c = append_call places f in
     let others = append_each fs o.after in
     let cs = singly (take others.accepted fs) in
-    let reply : reply_to c b ≡ by_outcome b (done o) = ap (by_outcome b) e in
+    let reply : reply_to c b ≡ by_outcome b (Ok o) = ap (by_outcome b) e in
     record {
       after = ap (λ (r : Reply). last_of r.after cs) reply ∙ rest.after;
       lines = ap (λ (r : Reply). lines_in r.result ++ handed_out (run r.after cs)) reply ∙ ap (λ (ls : List Line). o.lines ++ ls) rest.lines;

@@ -1,5 +1,6 @@
 -- What a call accounts for: a good buffer stays good, and every number is stored or told. So do two calls, one after the other, if each
 -- does; and so does an append that is not refused.
+use Rattle.std.specs.Prelude.{Ok, Err}
 use mathlib.Core.Path.{◌≡◌, refl, sym, ap, ◌∙◌}
 use mathlib.Core.Bool.{true, not}
 use mathlib.Core.List.{List, [], ◌∷◌, ◌++◌, append-nil, append_assoc}
@@ -15,7 +16,7 @@ use Rattle.buffer_state.specs.declared.Frame.{Frame}
 use Rattle.buffer_state.specs.declared.Offered.{Offered}
 use Rattle.buffer_state.specs.Buffer.{Buffer, has_track}
 use Rattle.buffer_state.specs.Limits.{places, last_number}
-use Rattle.buffer_state.specs.Refusals.{CallResult, refused, done}
+use Rattle.buffer_state.specs.Refusals.{CallResult}
 use Rattle.buffer_state.specs.Store.{Line}
 use Rattle.buffer_state.specs.Append.{Outcome, next_number, stored_as, is_offerable, leaves_limits, lacks_group, appended_outcome, append}
 use Rattle.buffer_state.specs.Run.{track_offered, on_offered, total}
@@ -166,5 +167,5 @@ pub append-lawful : (lent : ℕ) (f : Offered) (b : Buffer) → IfDone (OneLawfu
 append-lawful lent f b = go (append lent f b) (append-done lent f b)
   where
     go : (r : CallResult Outcome) → IfDone (λ (o : Outcome). IsAccepted b f × (appended_outcome b f ≡ o)) r → IfDone (OneLawful b f) r
-    go (refused why) h = tt
-    go (done o) h = rw h.1 at (appended-lawful b f h.0)
+    go (Err why) h = tt
+    go (Ok o) h = rw h.1 at (appended-lawful b f h.0)

@@ -1,5 +1,6 @@
 -- Document 02, No. 4: the mend of step 8 works. Over every list of calls from a fresh buffer a track's frames of the current group end at or
 -- before its highest end; so an append takes out no frame of the group in which its own is stored.
+use Rattle.std.specs.Prelude.{Ok}
 use mathlib.Core.Path.{◌≡◌, refl, sym, ap, ◌∙◌}
 use mathlib.Core.Bool.{Bool, true, false, cond, not, ◌&&◌}
 use mathlib.Core.List.{List, [], ◌∷◌, map}
@@ -22,7 +23,6 @@ use Rattle.buffer_state.specs.Batch.{append_each}
 use Rattle.buffer_state.specs.Buffer.{Buffer, fresh, zero_track, track_of, end_of, with_need, is_sequence}
 use Rattle.buffer_state.specs.Groups.{ended_by, ended_on, current_ended, is_untold, spares_group, SparesGroup}
 use Rattle.buffer_state.specs.Limits.{good_duration}
-use Rattle.buffer_state.specs.Refusals.{done}
 use Rattle.buffer_state.specs.Remove.{removal_marks, ends_track, after_loss, removed_outcome}
 use Rattle.buffer_state.specs.Run.{Call, last_of}
 use Rattle.buffer_state.specs.Settings.{create, aborted_buffer}
@@ -286,7 +286,7 @@ ended-preserved = record {
 
 -- ---- from a fresh buffer
 
-module _ (kinds : List ℕ) (made : create kinds ≡ done (fresh kinds)) (cs : List Call) where
+module _ (kinds : List ℕ) (made : create kinds ≡ Ok (fresh kinds)) (cs : List Call) where
   started : IsGoodWith IsEnded (fresh kinds)
   unfolding current_ended
   started = record { good = rw made at (created-good kinds); has = all_none (ended_on (fresh kinds).tracks 0) }

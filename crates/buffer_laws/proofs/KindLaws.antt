@@ -1,4 +1,5 @@
 -- The tracks are fixed at creation: no call changes their kinds, their order or how many there are.
+use Rattle.std.specs.Prelude.{Ok, Err}
 use mathlib.Core.Path.{◌≡◌, refl, ◌∙◌}
 use mathlib.Core.Bool.{Bool, true, false, not, ◌&&◌, ◌||◌}
 use mathlib.Core.List.{List, [], ◌∷◌, map}
@@ -18,10 +19,11 @@ use Rattle.buffer_state.specs.Batch.{Batch, most_frames, batch_lines, batch}
 use Rattle.buffer_state.specs.Buffer.{Buffer, fresh, fresh_track, zero_track, has_track, with_need, restarted_track, is_sequence, in_last_group}
 use Rattle.buffer_state.specs.Limits.{places, last_number}
 use Rattle.buffer_state.specs.Ranges.{Range, track_ranges, common_ranges}
-use Rattle.buffer_state.specs.Refusals.{CallResult, refused, done}
+use Rattle.buffer_state.specs.Refusals.{CallResult}
 use Rattle.buffer_state.specs.Remove.{before_bound, removal_marks, ends_track, after_loss, removal_lacks_group, removed_outcome, remove}
 use Rattle.buffer_state.specs.Run.{Call, append_call, remove_call, abort_call, mode_call, offset_call, window_start_call, window_end_call, read_call, ranges_call, common_call, batch_call, walked_call, seek_call, by_outcome, by_setting, by_ranges, by_batch, by_walked, by_seek, reply_to, last_of}
-use Rattle.buffer_state.specs.Seek.{Start, seek}
+use Rattle.buffer_state.specs.declared.Start.{Start}
+use Rattle.buffer_state.specs.Seek.{seek}
 use Rattle.buffer_state.specs.Settings.{aborted_buffer, abort, mode_set, offset_set, window_end, window_start_set, window_end_set}
 use Rattle.buffer_state.specs.Store.{Marked}
 use Rattle.buffer_state.specs.Walked.{walked}
@@ -125,20 +127,20 @@ mode-kinds Segments b = refl
 mode-kinds Sequence b = refl
 
 ranges-kinds : (b : Buffer) (r : CallResult (List Range)) → kinds_of (by_ranges b r).after ≡ kinds_of b
-ranges-kinds b (refused why) = refl
-ranges-kinds b (done rs) = refl
+ranges-kinds b (Err why) = refl
+ranges-kinds b (Ok rs) = refl
 
 walked-kinds : (b : Buffer) (r : CallResult ℕ) → kinds_of (by_walked b r).after ≡ kinds_of b
-walked-kinds b (refused why) = refl
-walked-kinds b (done n) = refl
+walked-kinds b (Err why) = refl
+walked-kinds b (Ok n) = refl
 
 seek-kinds : (b : Buffer) (r : CallResult Start) → kinds_of (by_seek b r).after ≡ kinds_of b
-seek-kinds b (refused why) = refl
-seek-kinds b (done s) = refl
+seek-kinds b (Err why) = refl
+seek-kinds b (Ok s) = refl
 
 outcome-kinds : (b : Buffer) (r : CallResult Outcome) → IfDone (Kinds b) r → kinds_of (by_outcome b r).after ≡ kinds_of b
-outcome-kinds b (refused why) e = refl
-outcome-kinds b (done o) e = e
+outcome-kinds b (Err why) e = refl
+outcome-kinds b (Ok o) e = e
 
 pub reply-kinds : (c : Call) (b : Buffer) → kinds_of (reply_to c b).after ≡ kinds_of b
 unfolding reply_to batch remove abort aborted_buffer offset_set window_start_set window_end_set

@@ -1,5 +1,6 @@
 -- Document 02, No. 6: over every list of calls from a fresh buffer, every stored frame that is not flagged has a stored flagged frame of its
 -- group and track before it.
+use Rattle.std.specs.Prelude.{Ok}
 use mathlib.Core.Path.{◌≡◌, refl, ap}
 use mathlib.Core.Bool.{true, not, ◌||◌}
 use mathlib.Core.List.{List, [], ◌∷◌}
@@ -13,7 +14,6 @@ use Rattle.buffer_state.specs.Append.{regrouped_buffer}
 use Rattle.buffer_state.specs.Batch.{append_each}
 use Rattle.buffer_state.specs.Buffer.{Buffer, fresh, fresh_track, track_of, restarted_track}
 use Rattle.buffer_state.specs.Groups.{current_ended}
-use Rattle.buffer_state.specs.Refusals.{done}
 use Rattle.buffer_state.specs.Remove.{removal_marks, ends_track, after_loss, removed_outcome}
 use Rattle.buffer_state.specs.Run.{Call, last_of}
 use Rattle.buffer_state.specs.Seek.{led_in, is_led}
@@ -89,7 +89,7 @@ led-preserved = record {
 
 -- ---- from a fresh buffer
 
-module _ (kinds : List ℕ) (made : create kinds ≡ done (fresh kinds)) (cs : List Call) where
+module _ (kinds : List ℕ) (made : create kinds ≡ Ok (fresh kinds)) (cs : List Call) where
   started : IsGoodWith IsEndedLed (fresh kinds)
   unfolding current_ended is_led
   started = record {

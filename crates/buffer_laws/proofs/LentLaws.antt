@@ -1,4 +1,5 @@
 -- A head and two arrays hold a buffer and nothing else: a well-formed state is what its buffer is laid out as. And a call on them.
+use Rattle.std.specs.Prelude.{Err}
 use mathlib.Core.Path.{◌≡◌, refl, sym, ap, ◌∙◌}
 use mathlib.Core.Bool.{true, false, ◌&&◌}
 use mathlib.Core.List.{List}
@@ -15,7 +16,7 @@ use Rattle.buffer_state.specs.Buffer.{Buffer}
 use Rattle.buffer_state.specs.Layout.{zero_frame, padded_list, state_of, buffer_of, well_formed}
 use Rattle.buffer_state.specs.Lent.{Lent, lent_of, buffer_in, frames_of, times_of, tags_of, Lengths, state_at, head_of, times_in, tags_in, plain_time, plain_tag, well_formed_at, on_lent}
 use Rattle.buffer_state.specs.Limits.{places}
-use Rattle.buffer_state.specs.Refusals.{CallResult, refused}
+use Rattle.buffer_state.specs.Refusals.{CallResult}
 use Rattle.buffer_state.specs.State.{State}
 use Rattle.buffer_state.specs.WellFormed.{all_of, good_buffer}
 use Rattle.buffer_laws.proofs.LayoutLaws.{padded-length, buffer-back, state-back, few-frames, good-well_formed, well_formed-good}
@@ -109,7 +110,7 @@ laid-well_formed b good =
 
 module _ {A : Type 0} (call : Buffer → CallResult A) where
   -- on what is not well-formed it is refused 1
-  pub ill-formed-refused : (h : Head) (ts : List (List ℤ)) (gs : List (List ℕ)) → well_formed_at h ts gs ≡ false → on_lent call h ts gs ≡ refused IllFormed
+  pub ill-formed-refused : (h : Head) (ts : List (List ℤ)) (gs : List (List ℕ)) → well_formed_at h ts gs ≡ false → on_lent call h ts gs ≡ Err IllFormed
   unfolding on_lent
   ill-formed-refused h ts gs e = rw e
 

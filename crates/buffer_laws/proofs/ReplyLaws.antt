@@ -1,5 +1,6 @@
 -- What appends, removals, aborts and settings keep of a good buffer, every call keeps; so do every list of calls and any frames of a batch,
 -- by one induction.
+use Rattle.std.specs.Prelude.{Ok, Err}
 use mathlib.Core.Path.{◌≡◌, refl}
 use mathlib.Core.Bool.{not, ◌||◌}
 use mathlib.Core.List.{List, [], ◌∷◌}
@@ -19,10 +20,11 @@ use Rattle.buffer_state.specs.Batch.{Batch, append_each, most_frames, batch_line
 use Rattle.buffer_state.specs.Buffer.{Buffer, is_sequence, in_last_group}
 use Rattle.buffer_state.specs.Limits.{places}
 use Rattle.buffer_state.specs.Ranges.{Range, track_ranges, common_ranges}
-use Rattle.buffer_state.specs.Refusals.{CallResult, refused, done}
+use Rattle.buffer_state.specs.Refusals.{CallResult}
 use Rattle.buffer_state.specs.Remove.{before_bound, removal_lacks_group, removed_outcome, remove}
 use Rattle.buffer_state.specs.Run.{Call, append_call, remove_call, abort_call, mode_call, offset_call, window_start_call, window_end_call, read_call, ranges_call, common_call, batch_call, walked_call, seek_call, by_outcome, by_setting, by_ranges, by_batch, by_walked, by_seek, reply_to, last_of}
-use Rattle.buffer_state.specs.Seek.{Start, seek}
+use Rattle.buffer_state.specs.declared.Start.{Start}
+use Rattle.buffer_state.specs.Seek.{seek}
 use Rattle.buffer_state.specs.Settings.{aborted_buffer, abort, mode_set, offset_set, window_end, window_start_set, window_end_set}
 use Rattle.buffer_state.specs.Walked.{walked}
 use Rattle.buffer_laws.proofs.AppendLaws.{IsAccepted}
@@ -80,14 +82,14 @@ pub record IsGoodWith (P : Buffer → Type 0) (b : Buffer) : Type 0 where
   pub has : P b
 
 module _ (P : Buffer → Type 0) (k : IsPreserved P) where
-  append-kept : (lent : ℕ) (f : Offered) (b : Buffer) → IsGoodWith P b → (o : Outcome) → append lent f b ≡ done o → P o.after
+  append-kept : (lent : ℕ) (f : Offered) (b : Buffer) → IsGoodWith P b → (o : Outcome) → append lent f b ≡ Ok o → P o.after
   append-kept lent f b g o d =
       let h = if-done (λ (o : Outcome). IsAccepted b f × (appended_outcome b f ≡ o)) (append lent f b) (append-done lent f b) d in
       rw h.1 at (k.by_append b f h.0 g.good g.has)
 
-  outcome-kept : (b : Buffer) (r : CallResult Outcome) → P b → ((o : Outcome) → r ≡ done o → P o.after) → P (by_outcome b r).after
-  outcome-kept b (refused why) p h = p
-  outcome-kept b (done o) p h = h o refl
+  outcome-kept : (b : Buffer) (r : CallResult Outcome) → P b → ((o : Outcome) → r ≡ Ok o → P o.after) → P (by_outcome b r).after
+  outcome-kept b (Err why) p h = p
+  outcome-kept b (Ok o) p h = h o refl
 
   remove-kept : (lent : ℕ) (start end : Float) (b : Buffer) → IsGoodWith P b → P (by_outcome b (remove lent start end b)).after
   unfolding remove
@@ -104,8 +106,8 @@ module _ (P : Buffer → Type 0) (k : IsPreserved P) where
   abort-kept b g = by-test (λ (r : CallResult Buffer). P (by_setting b r).after) (in_last_group b) (λ _. g.has) (λ _. k.by_abort b g.good g.has)
 
   setting_kept : (b : Buffer) (r : CallResult Buffer) → IfDone (Alike b) r → P b → P (by_setting b r).after
-  setting_kept b (refused why) a p = p
-  setting_kept b (done c) a p = k.by_set_call b c a p
+  setting_kept b (Err why) a p = p
+  setting_kept b (Ok c) a p = k.by_set_call b c a p
 
   -- Any frames of a batch keep it,
   pub batch-kept : (fs : List Offered) (b : Buffer) → IsGoodWith P b → IsGoodWith P (append_each fs b).outcome.after
@@ -125,16 +127,16 @@ module _ (P : Buffer → Type 0) (k : IsPreserved P) where
       (λ _. (batch-kept fs b g).has))
 
   ranges-kept : (b : Buffer) (r : CallResult (List Range)) → P b → P (by_ranges b r).after
-  ranges-kept b (refused why) p = p
-  ranges-kept b (done rs) p = p
+  ranges-kept b (Err why) p = p
+  ranges-kept b (Ok rs) p = p
 
   walked-kept : (b : Buffer) (r : CallResult ℕ) → P b → P (by_walked b r).after
-  walked-kept b (refused why) p = p
-  walked-kept b (done n) p = p
+  walked-kept b (Err why) p = p
+  walked-kept b (Ok n) p = p
 
   seek-kept : (b : Buffer) (r : CallResult Start) → P b → P (by_seek b r).after
-  seek-kept b (refused why) p = p
-  seek-kept b (done s) p = p
+  seek-kept b (Err why) p = p
+  seek-kept b (Ok s) p = p
 
   reply-kept : (c : Call) (b : Buffer) → IsGoodWith P b → P (reply_to c b).after
   unfolding reply_to

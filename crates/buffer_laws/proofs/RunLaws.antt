@@ -1,4 +1,5 @@
 -- Each call of a run keeps a good buffer good and accounts for every number; so does a whole run, by induction over its calls.
+use Rattle.std.specs.Prelude.{Ok, Err}
 use mathlib.Core.Path.{◌≡◌, refl}
 use mathlib.Core.Bool.{true, false, not, ◌||◌}
 use mathlib.Core.List.{List, [], ◌∷◌, append-nil}
@@ -14,14 +15,15 @@ use Rattle.buffer_state.specs.State.{State}
 use Rattle.buffer_state.specs.Buffer.{Buffer}
 use Rattle.buffer_state.specs.Layout.{state_of, buffer_of, well_formed}
 use Rattle.buffer_state.specs.Limits.{places}
-use Rattle.buffer_state.specs.Refusals.{CallResult, refused, done}
+use Rattle.buffer_state.specs.Refusals.{CallResult}
 use Rattle.buffer_state.specs.Append.{Outcome, append}
 use Rattle.buffer_state.specs.Batch.{Batch, most_frames, batch_lines, batch}
 use Rattle.buffer_state.specs.Remove.{before_bound, removal_lacks_group, removed_outcome, remove}
 use Rattle.buffer_state.specs.Ranges.{Range, track_ranges, common_ranges}
 use Rattle.buffer_state.specs.Settings.{create, abort, mode_set, offset_set, window_start_set, window_end_set}
 use Rattle.buffer_state.specs.Run.{Call, append_call, remove_call, abort_call, mode_call, offset_call, window_start_call, window_end_call, read_call, ranges_call, common_call, batch_call, walked_call, seek_call, Answer, ok, ranges, Reply, by_outcome, by_setting, by_ranges, by_batch, by_walked, by_seek, reply_to, run, last_of, lines_in, handed_out, offered_by, offers, on_offered}
-use Rattle.buffer_state.specs.Seek.{Start, seek}
+use Rattle.buffer_state.specs.declared.Start.{Start}
+use Rattle.buffer_state.specs.Seek.{seek}
 use Rattle.buffer_state.specs.Walked.{walked}
 use Rattle.buffer_laws.proofs.LayoutLaws.{good-well_formed, well_formed-good}
 use Rattle.buffer_laws.proofs.GoodLaws.{IsGood, good-facts, facts-good}
@@ -48,24 +50,24 @@ abbrev IsLawfulReply : Call → Buffer → Reply → Type 0
 IsLawfulReply c b r = IsLawful b (offered_by c r.result) (lines_in r.result) r.after
 
 append-reply : (lent : ℕ) (f : Offered) (b : Buffer) (r : CallResult Outcome) → IfDone (OneLawful b f) r → IsLawfulReply (append_call lent f) b (by_outcome b r)
-append-reply lent f b (refused why) law = same b
-append-reply lent f b (done o) law = law
+append-reply lent f b (Err why) law = same b
+append-reply lent f b (Ok o) law = law
 
 setting-lawful : (c : Call) (b : Buffer) (r : CallResult Buffer) → ((a : CallResult Answer) → offered_by c a ≡ []) → IfDone (Set b) r → IsLawfulReply c b (by_setting b r)
-setting-lawful c b (refused why) none s = rw (none (refused why)) (same b)
-setting-lawful c b (done d) none s = rw (none (done ok)) (still b d s.good s.untouched)
+setting-lawful c b (Err why) none s = rw (none (Err why)) (same b)
+setting-lawful c b (Ok d) none s = rw (none (Ok ok)) (still b d s.good s.untouched)
 
 ranges-lawful : (c : Call) (b : Buffer) (r : CallResult (List Range)) → ((a : CallResult Answer) → offered_by c a ≡ []) → IsLawfulReply c b (by_ranges b r)
-ranges-lawful c b (refused why) none = rw (none (refused why)) (same b)
-ranges-lawful c b (done rs) none = rw (none (done (ranges rs))) (same b)
+ranges-lawful c b (Err why) none = rw (none (Err why)) (same b)
+ranges-lawful c b (Ok rs) none = rw (none (Ok (ranges rs))) (same b)
 
 walked-lawful : (lent track : ℕ) (b : Buffer) (r : CallResult ℕ) → IsLawfulReply (walked_call lent track) b (by_walked b r)
-walked-lawful lent track b (refused why) = same b
-walked-lawful lent track b (done n) = same b
+walked-lawful lent track b (Err why) = same b
+walked-lawful lent track b (Ok n) = same b
 
 seek-lawful : (track : ℕ) (t : ℤ) (b : Buffer) (r : CallResult Start) → IsLawfulReply (seek_call track t) b (by_seek b r)
-seek-lawful track t b (refused why) = same b
-seek-lawful track t b (done s) = same b
+seek-lawful track t b (Err why) = same b
+seek-lawful track t b (Ok s) = same b
 
 -- Preservation and conservation, of every call on every buffer.
 pub reply-lawful : (c : Call) (b : Buffer) → IsLawfulReply c b (reply_to c b)
@@ -105,8 +107,8 @@ pub create-well_formed : (kinds : List ℕ) → IfDone (λ (b : Buffer). well_fo
 create-well_formed kinds = go (create kinds) (created-good kinds)
   where
     go : (r : CallResult Buffer) → IfDone IsGood r → IfDone (λ (b : Buffer). well_formed (state_of b) ≡ true) r
-    go (refused why) g = tt
-    go (done b) g = good-well_formed b (facts-good b g)
+    go (Err why) g = tt
+    go (Ok b) g = good-well_formed b (facts-good b g)
 
 -- ---- a whole run
 

@@ -1,5 +1,6 @@
 -- Document 02, No. 7: "A saved state whose kept double converts differently now is refused 1 by every call that takes it."
 -- Every call takes a state by way of `on_lent`.
+use Rattle.std.specs.Prelude.{Err}
 use mathlib.Core.Path.{◌≡◌, refl, ap}
 use mathlib.Core.Bool.{Bool, true, false, not, ◌||◌}
 use mathlib.Core.List.{List}
@@ -17,7 +18,7 @@ use Rattle.buffer_state.specs.Buffer.{Buffer}
 use Rattle.buffer_state.specs.Layout.{buffer_of}
 use Rattle.buffer_state.specs.Lent.{state_at, well_formed_at, on_lent}
 use Rattle.buffer_state.specs.Limits.{result_time}
-use Rattle.buffer_state.specs.Refusals.{CallResult, refused}
+use Rattle.buffer_state.specs.Refusals.{CallResult}
 use Rattle.buffer_state.specs.WellFormed.{converts, good_offset, good_start, good_end}
 use Rattle.buffer_laws.proofs.GoodLaws.{IsGoodSettings, good-facts}
 use Rattle.buffer_laws.proofs.LayoutLaws.{well_formed-good}
@@ -46,7 +47,7 @@ all-convert s good =
     (or-none _ _ (ap not (and_right (le_z (pos 0) s.start.micros) _ good.start)) (end-converts s.start.micros s.end s.limit good.end))
 
 pub differing-refused : {A : Type 0} (call : Buffer → CallResult A) (h : Head) (ts : List (List ℤ)) (gs : List (List ℕ))
-    → converts_differently h.settings ≡ true → on_lent call h ts gs ≡ refused IllFormed
+    → converts_differently h.settings ≡ true → on_lent call h ts gs ≡ Err IllFormed
 differing-refused call h ts gs differs = ill-formed-refused call h ts gs (split (well_formed_at h ts gs) taken (λ ill. ill))
   where
     taken : well_formed_at h ts gs ≡ true → well_formed_at h ts gs ≡ false

@@ -1,4 +1,5 @@
 -- Document 02, No. 6: a seek's target is the greatest of the frames that cover the instant, and the frames to decode lead to it.
+use Rattle.std.specs.Prelude.{Ok, Err}
 use mathlib.Core.Path.{◌≡◌, refl, sym, ap, subst, ◌∙◌}
 use mathlib.Core.Bool.{Bool, true, false, not, ◌&&◌, ◌||◌, true≢false}
 use mathlib.Core.List.{List, [], ◌∷◌}
@@ -13,9 +14,10 @@ use Rattle.buffer_state.specs.declared.Frame.{Frame}
 use Rattle.buffer_state.specs.declared.Refusal.TheVariants.{NoStart}
 use Rattle.buffer_state.specs.Buffer.{Buffer, has_track}
 use Rattle.buffer_state.specs.Ranges.{covers, covered_on}
-use Rattle.buffer_state.specs.Refusals.{CallResult, refused, done}
+use Rattle.buffer_state.specs.Refusals.{CallResult}
 use Rattle.buffer_state.specs.Run.{count}
-use Rattle.buffer_state.specs.Seek.{Target, none, picked, over, pick, target_of, to_decode, Start, seek, is_led}
+use Rattle.buffer_state.specs.declared.Start.{Start}
+use Rattle.buffer_state.specs.Seek.{Target, none, picked, over, pick, target_of, to_decode, seek, is_led}
 use Rattle.buffer_state.specs.Store.{is_before}
 use Rattle.buffer_state.specs.WellFormed.{all_of}
 use Rattle.buffer_laws.proofs.DecodeLaws.{decoded-length, start-always}
@@ -156,7 +158,7 @@ count-bounded track t f fs e =
 -- a seek that is not refused
 pub record IsFound (r : CallResult Start) : Type 0 where
   pub start : Start
-  pub is : r ≡ done start
+  pub is : r ≡ Ok start
 
 module _ (b : Buffer) (track : ℕ) (t : ℤ) (has : has_track b track ≡ true) where
   -- Where every stored frame is led and one of the track covers the instant, there is a start.
@@ -172,16 +174,16 @@ module _ (b : Buffer) (track : ℕ) (t : ℤ) (has : has_track b track ≡ true)
       }
 
   -- Where every stored frame is led, a seek is refused 15 exactly if no frame of the track covers the instant.
-  pub refused-uncovered : is_led b.frames ≡ true → (seek track t b ≡ refused NoStart) ↔ (covered_on track t b.frames ≡ false)
+  pub refused-uncovered : is_led b.frames ≡ true → (seek track t b ≡ Err NoStart) ↔ (covered_on track t b.frames ≡ false)
   unfolding seek
   refused-uncovered l = (
     λ e. split (covered_on track t b.frames) (λ c. let found = covered-found l c in absurd (differ (sym found.is ∙ e))) (λ c. c),
     λ e. rw (has, no_target track t b.frames e),
   )
     where
-      differ : {s : Start} → done s ≡ refused NoStart → ⊥
+      differ : {s : Start} → Ok s ≡ Err NoStart → ⊥
       differ e = true≢false (ap answered e)
         where
           answered : CallResult Start → Bool
-          answered (refused why) = false
-          answered (done s) = true
+          answered (Err why) = false
+          answered (Ok s) = true

@@ -1,4 +1,5 @@
 -- Creation gives a good buffer; abort and the setters keep one good, and touch no frame and no number.
+use Rattle.std.specs.Prelude.{Ok, Err}
 use mathlib.Core.Path.{◌≡◌, refl}
 use mathlib.Core.Bool.{Bool, true, false, cond, not, ◌||◌}
 use mathlib.Core.List.{List, [], map}
@@ -22,7 +23,7 @@ use Rattle.buffer_state.specs.declared.WindowEnd.{WindowEnd}
 use Rattle.buffer_state.specs.declared.WindowEnd.TheVariants.{Unbounded, At}
 use Rattle.buffer_state.specs.Buffer.{Buffer, with_mode, with_settings, restarted_track, fresh_track, fresh, is_sequence, start_at_end, in_last_group}
 use Rattle.buffer_state.specs.Limits.{result_time, most_tracks, known_kind}
-use Rattle.buffer_state.specs.Refusals.{CallResult, refused, done}
+use Rattle.buffer_state.specs.Refusals.{CallResult}
 use Rattle.buffer_state.specs.Remove.{before_bound}
 use Rattle.buffer_state.specs.Settings.{create, aborted_buffer, abort, mode_set, given, offset_set, bound_at, window_end, window_start_set, end_at, limit_at, window_end_set}
 use Rattle.buffer_state.specs.WellFormed.{all_of, converts, good_track, good_tracks, good_count, is_sorted, distinct_numbers, good_group, good_offset, good_start, good_end}
@@ -65,10 +66,10 @@ fresh-tracks kinds some few known =
 
 -- what holds of a buffer that creation gives
 abbrev pub IfDone : {A : Type 0} → (A → Type 0) → CallResult A → Type 0
-IfDone P (refused why) = Unit {0}
-IfDone P (done x) = P x
+IfDone P (Err why) = Unit {0}
+IfDone P (Ok x) = P x
 
-pub if-done : {A : Type 0} (P : A → Type 0) (r : CallResult A) → IfDone P r → {x : A} → r ≡ done x → P x
+pub if-done : {A : Type 0} (P : A → Type 0) (r : CallResult A) → IfDone P r → {x : A} → r ≡ Ok x → P x
 if-done P r h e = rw e at h
 
 pub created-good : (kinds : List ℕ) → IfDone IsGood (create kinds)

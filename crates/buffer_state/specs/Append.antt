@@ -1,5 +1,5 @@
 -- Document 01, "Appending one frame": steps 1 to 9, then the call. Store order and the walk of step 8 are in Store.antt.
-use Rattle.std.specs.Prelude.{Bool, true, false, cond, not, ◌&&◌, ◌||◌, List, [], ◌∷◌, ℕ, ◌+◌, ◌*◌, ltb, eqb, ℤ, pos, ◌+ℤ◌, ◌-ℤ◌, length}
+use Rattle.std.specs.Prelude.{Bool, true, false, cond, not, ◌&&◌, ◌||◌, List, [], ◌∷◌, ℕ, ◌+◌, ◌*◌, ltb, eqb, ℤ, pos, ◌+ℤ◌, ◌-ℤ◌, length, Ok}
 use Rattle.std.specs.Int.Signed.{lt_z, le_z}
 use Rattle.seconds.specs.Seconds.{seconds_of}
 use Rattle.buffer_state.specs.declared.Frame.{Frame}
@@ -11,7 +11,7 @@ use Rattle.buffer_state.specs.declared.WindowEnd.TheVariants.{Unbounded, At}
 use Rattle.buffer_state.specs.declared.Refusal.TheVariants.{ShortFates, NoTrack, FrameLimits, ResultLimits, Full, LastNumber}
 use Rattle.buffer_state.specs.Buffer.{Buffer, with_tracks, with_group, with_last, with_track, track_of, has_track, with_need, need_for_all, restart_all, is_sequence, start_at_end, with_end, in_next_group, in_last_group}
 use Rattle.buffer_state.specs.Limits.{offered_time, result_time, good_duration, places, last_number}
-use Rattle.buffer_state.specs.Refusals.{CallResult, done, refuse_if}
+use Rattle.buffer_state.specs.Refusals.{CallResult, refuse_if}
 use Rattle.buffer_state.specs.Store.{Marked, mark_where, walk, kept, Line, lines_of, insert_sorted}
 
 -- what a call that is not refused leaves: the buffer, and the fate lines in order
@@ -216,4 +216,4 @@ append lent f b =
     (refuse_if (leaves_limits b f) ResultLimits
     (refuse_if (lacks_group b f) LastNumber
     (refuse_if (ltb places (length (appended_outcome b f).after.frames)) Full
-    (done (appended_outcome b f))))))))
+    (Ok (appended_outcome b f))))))))

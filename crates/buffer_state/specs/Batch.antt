@@ -1,15 +1,14 @@
 -- Document 02, No. 2: a whole segment's frames in one call. A batch (the replay protocol's term) is up to 64 frames appended one by one
 -- in list order, the fate lists joined; it stops at the first frame that is refused.
-use Rattle.std.specs.Prelude.{Bool, cond, List, [], ◌∷◌, ◌++◌, ℕ, suc, ltb, ℤ, pos, nat_abs, length, get_or}
+use Rattle.std.specs.Prelude.{Bool, cond, List, [], ◌∷◌, ◌++◌, ℕ, suc, ltb, ℤ, pos, nat_abs, length, get_or, Option, None, Some, Ok, Err}
 use Rattle.seconds.specs.Seconds.{same_int}
 use Rattle.buffer_state.specs.declared.Offered.{Offered}
+use Rattle.buffer_state.specs.declared.Refusal.{Refusal}
 use Rattle.buffer_state.specs.declared.Refusal.TheVariants.{ShortFates, LentSize}
-use Rattle.buffer_state.specs.declared.Stop.{Stop}
-use Rattle.buffer_state.specs.declared.Stop.TheVariants.{Nothing, By}
 use Rattle.buffer_state.specs.Append.{Outcome, append}
 use Rattle.buffer_state.specs.Buffer.{Buffer}
 use Rattle.buffer_state.specs.Limits.{is_within, places}
-use Rattle.buffer_state.specs.Refusals.{CallResult, refused, done, refuse_if}
+use Rattle.buffer_state.specs.Refusals.{CallResult, refuse_if}
 
 -- ---- a row of numbers as an offered frame
 
@@ -33,10 +32,10 @@ offered_in row =
 pub record Batch : Type 0 where
   pub outcome : Outcome
   pub accepted : ℕ
-  pub stop : Stop
+  pub stop : Option Refusal
 
 -- no frame more is appended
-abbrev pub ended : Buffer → Stop → Batch
+abbrev pub ended : Buffer → Option Refusal → Batch
 ended b why = record { outcome = record { after = b; lines = [] }; accepted = 0; stop = why }
 
 -- a frame that is accepted, then the others
@@ -49,12 +48,12 @@ onward o rest = record {
 
 -- A frame that is refused stops the batch and changes nothing; one that is accepted stays.
 abbrev pub following_batch : (Buffer → Batch) → Buffer → CallResult Outcome → Batch
-following_batch others b (refused why) = ended b (By why)
-following_batch others b (done o) = onward o (others o.after)
+following_batch others b (Err why) = ended b (Some why)
+following_batch others b (Ok o) = onward o (others o.after)
 
 -- One by one, each as if lent 1,024 lines of its own.
 unfoldable pub append_each : List Offered → Buffer → Batch
-append_each [] b = ended b Nothing
+append_each [] b = ended b None
 append_each (f ∷ fs) b = following_batch (append_each fs) b (append places f b)
 
 -- ---- the call
@@ -72,4 +71,4 @@ unfoldable pub batch : ℕ → List Offered → Buffer → CallResult Batch
 batch lent fs b =
     refuse_if (ltb most_frames (length fs)) LentSize
     (refuse_if (ltb lent batch_lines) ShortFates
-    (done (append_each fs b)))
+    (Ok (append_each fs b)))

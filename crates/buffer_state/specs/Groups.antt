@@ -1,13 +1,12 @@
 -- Document 02, No. 4: what its mend of step 8 comes to. An append takes out no frame of the group in which its own frame is stored; that
 -- rests on what every list of calls from a fresh buffer keeps of the current group.
-use Rattle.std.specs.Prelude.{◌≡◌, Bool, true, not, ◌&&◌, ◌||◌, List, ℕ, ◌-◌, eqb, get_or}
+use Rattle.std.specs.Prelude.{◌≡◌, Bool, true, not, ◌&&◌, ◌||◌, List, ℕ, ◌-◌, eqb, get_or, Ok}
 use Rattle.std.specs.Int.Signed.{le_z}
 use Rattle.buffer_state.specs.declared.Frame.{Frame}
 use Rattle.buffer_state.specs.declared.Offered.{Offered}
 use Rattle.buffer_state.specs.declared.Track.{Track}
 use Rattle.buffer_state.specs.Append.{Outcome, append}
 use Rattle.buffer_state.specs.Buffer.{Buffer, zero_track, end_of}
-use Rattle.buffer_state.specs.Refusals.{done}
 use Rattle.buffer_state.specs.Store.{Line}
 use Rattle.buffer_state.specs.WellFormed.{all_of}
 
@@ -37,4 +36,4 @@ spares_group b o = all_of (λ (f : Frame). not (eqb f.group o.after.group.number
 
 -- so it is for whatever frame is appended next
 abbrev pub SparesGroup : Buffer → Type 0
-SparesGroup b = (lent : ℕ) (f : Offered) (o : Outcome) → append lent f b ≡ done o → spares_group b o ≡ true
+SparesGroup b = (lent : ℕ) (f : Offered) (o : Outcome) → append lent f b ≡ Ok o → spares_group b o ≡ true

@@ -1,10 +1,10 @@
 -- Document 01, "The bar on the timeline".
-use Rattle.std.specs.Prelude.{Bool, true, false, cond, not, ◌&&◌, ◌||◌, List, [], ◌∷◌, ◌++◌, ℕ, zero, suc, ltb, eqb, ℤ, length}
+use Rattle.std.specs.Prelude.{Bool, true, false, cond, not, ◌&&◌, ◌||◌, List, [], ◌∷◌, ◌++◌, ℕ, zero, suc, ltb, eqb, ℤ, length, Ok}
 use Rattle.std.specs.Int.Signed.{lt_z, le_z}
 use Rattle.buffer_state.specs.declared.Frame.{Frame}
 use Rattle.buffer_state.specs.declared.Refusal.TheVariants.{NoTrack, ShortList}
 use Rattle.buffer_state.specs.Buffer.{Buffer, has_track, end_of}
-use Rattle.buffer_state.specs.Refusals.{CallResult, done, refuse_if}
+use Rattle.buffer_state.specs.Refusals.{CallResult, refuse_if}
 
 -- ---- coverage
 
@@ -97,11 +97,11 @@ track_ranges lent track b =
     let ranges = ranges_of track b.frames in
     refuse_if (not (has_track b track)) NoTrack
     (refuse_if (ltb lent (length ranges)) ShortList
-    (done ranges))
+    (Ok ranges))
 
 -- The common ranges: refusals (1,) 10.
 unfoldable pub common_ranges : ℕ → Buffer → CallResult (List Range)
 common_ranges lent b =
     let ranges = common_ranges_of (length b.tracks) b.frames in
     refuse_if (ltb lent (length ranges)) ShortList
-    (done ranges)
+    (Ok ranges)

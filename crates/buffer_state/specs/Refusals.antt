@@ -1,9 +1,7 @@
 -- Document 01, "Refusal numbers", and those of document 02, which join them. A refusal number is that document's term: the number that a refused call returns.
-use Rattle.std.specs.Prelude.{Bool, cond, ℕ}
+use Rattle.std.specs.Prelude.{Bool, cond, ℕ, Option, None, Some, Result, Ok, Err}
 use Rattle.buffer_state.specs.declared.Refusal.{Refusal}
 use Rattle.buffer_state.specs.declared.Refusal.TheVariants.{IllFormed, ShortFates, NoTrack, FrameLimits, Seconds, Order, ResultLimits, Full, LastNumber, ShortList, Kinds, Malformed, LentSize, LargeFragment, NoStart}
-use Rattle.buffer_state.specs.declared.Stop.{Stop}
-use Rattle.buffer_state.specs.declared.Stop.TheVariants.{Nothing, By}
 
 -- The table. The calls' own definitions say exactly when each is given, and in which order.
 abbrev pub refusal_number : Refusal → ℕ
@@ -24,15 +22,14 @@ refusal_number LargeFragment = 14
 refusal_number NoStart = 15
 
 -- of what stopped a batch: 0 where nothing did
-abbrev pub stop_number : Stop → ℕ
-stop_number Nothing = 0
-stop_number (By why) = refusal_number why
+abbrev pub stop_number : Option Refusal → ℕ
+stop_number None = 0
+stop_number (Some why) = refusal_number why
 
 -- what a call gives: its result, or one refusal
-pub data CallResult (A : Type 0) : Type 0 where
-  refused : Refusal → CallResult A
-  done : A → CallResult A
+abbrev pub CallResult : Type 0 → Type 0
+CallResult A = Result A Refusal
 
 -- The first refusal that applies is given: each call lists its tests in the set order, then its result.
 abbrev pub refuse_if : {A : Type 0} → Bool → Refusal → CallResult A → CallResult A
-refuse_if test why otherwise = cond test (refused why) otherwise
+refuse_if test why otherwise = cond test (Err why) otherwise

@@ -1,12 +1,12 @@
 -- Document 01, "Removing, aborting, setting": removing a stretch of time.
-use Rattle.std.specs.Prelude.{Bool, true, false, cond, not, ◌&&◌, ◌||◌, List, [], ◌∷◌, ℕ, ltb, eqb, ℤ, pos, Float}
+use Rattle.std.specs.Prelude.{Bool, true, false, cond, not, ◌&&◌, ◌||◌, List, [], ◌∷◌, ℕ, ltb, eqb, ℤ, pos, Float, Ok}
 use Rattle.std.specs.Int.Signed.{lt_z, le_z}
 use Rattle.seconds.specs.Seconds.{Bound, unbounded, at, is_convertible, is_convertible_end, micros_of, bound_of, same_int}
 use Rattle.buffer_state.specs.declared.Frame.{Frame}
 use Rattle.buffer_state.specs.declared.Refusal.TheVariants.{ShortFates, Seconds, Order, LastNumber}
 use Rattle.buffer_state.specs.Buffer.{Buffer, with_frames, track_of, in_last_group}
 use Rattle.buffer_state.specs.Limits.{places}
-use Rattle.buffer_state.specs.Refusals.{CallResult, done, refuse_if}
+use Rattle.buffer_state.specs.Refusals.{CallResult, refuse_if}
 use Rattle.buffer_state.specs.Store.{Marked, is_taken, mark_where, walk, kept, lines_of}
 use Rattle.buffer_state.specs.Append.{Outcome, regrouped_buffer}
 
@@ -62,4 +62,4 @@ remove lent start end b =
     (refuse_if (not (is_convertible start) || not (is_convertible_end end)) Seconds
     (refuse_if (lt_z (micros_of start) (pos 0) || not (before_bound (micros_of start) (bound_of end))) Order
     (refuse_if (removal_lacks_group (micros_of start) (bound_of end) b) LastNumber
-    (done (removed_outcome (micros_of start) (bound_of end) b)))))
+    (Ok (removed_outcome (micros_of start) (bound_of end) b)))))

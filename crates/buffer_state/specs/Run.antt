@@ -1,19 +1,21 @@
 -- Document 01, "The whole account": the plain run over a list of calls, and what it counts.
-use Rattle.std.specs.Prelude.{Bool, cond, ◌&&◌, List, [], ◌∷◌, ◌++◌, map, ℕ, ◌+◌, ◌-◌, leb, eqb, ℤ, Float, take, get_or}
+use Rattle.std.specs.Prelude.{Bool, cond, ◌&&◌, List, [], ◌∷◌, ◌++◌, map, ℕ, ◌+◌, ◌-◌, leb, eqb, ℤ, Float, take, get_or, Option, Ok, Err}
 use Rattle.buffer_state.specs.declared.Frame.{Frame}
 use Rattle.buffer_state.specs.declared.Mode.{Mode}
 use Rattle.buffer_state.specs.declared.Offered.{Offered}
-use Rattle.buffer_state.specs.declared.Stop.{Stop}
+use Rattle.buffer_state.specs.declared.Refusal.{Refusal}
 use Rattle.buffer_state.specs.Buffer.{Buffer}
-use Rattle.buffer_state.specs.Refusals.{CallResult, refused, done}
+use Rattle.buffer_state.specs.Refusals.{CallResult}
 use Rattle.buffer_state.specs.Store.{Line}
 use Rattle.buffer_state.specs.Append.{Outcome, append}
 use Rattle.buffer_state.specs.Batch.{Batch, batch}
 use Rattle.buffer_state.specs.Remove.{remove}
-use Rattle.buffer_state.specs.Settings.{abort, mode_set, offset_set, window_start_set, window_end_set, Reading, reading}
+use Rattle.buffer_state.specs.declared.Reading.{Reading}
+use Rattle.buffer_state.specs.Settings.{abort, mode_set, offset_set, window_start_set, window_end_set, reading}
 use Rattle.buffer_state.specs.Ranges.{Range, track_ranges, common_ranges}
 use Rattle.buffer_state.specs.Walked.{walked}
-use Rattle.buffer_state.specs.Seek.{Start, seek}
+use Rattle.buffer_state.specs.declared.Start.{Start}
+use Rattle.buffer_state.specs.Seek.{seek}
 
 -- a call with its arguments except the state; of a lent list, how many places it has
 pub data Call : Type 0 where
@@ -37,7 +39,7 @@ pub data Answer : Type 0 where
   fates : List Line → Answer
   settings : Reading → Answer
   ranges : List Range → Answer
-  accepted : ℕ → Stop → List Line → Answer
+  accepted : ℕ → Option Refusal → List Line → Answer
   taken : ℕ → Answer
   decoding : Start → Answer
 
@@ -49,39 +51,39 @@ pub record Reply : Type 0 where
 -- ---- one call: a refusal changes nothing, and neither does a call that only reads
 
 abbrev pub by_outcome : Buffer → CallResult Outcome → Reply
-by_outcome b (refused why) = record { result = refused why; after = b }
-by_outcome b (done o) = record { result = done (fates o.lines); after = o.after }
+by_outcome b (Err why) = record { result = Err why; after = b }
+by_outcome b (Ok o) = record { result = Ok (fates o.lines); after = o.after }
 
 abbrev pub by_setting : Buffer → CallResult Buffer → Reply
-by_setting b (refused why) = record { result = refused why; after = b }
-by_setting b (done c) = record { result = done ok; after = c }
+by_setting b (Err why) = record { result = Err why; after = b }
+by_setting b (Ok c) = record { result = Ok ok; after = c }
 
 abbrev pub by_ranges : Buffer → CallResult (List Range) → Reply
-by_ranges b (refused why) = record { result = refused why; after = b }
-by_ranges b (done rs) = record { result = done (ranges rs); after = b }
+by_ranges b (Err why) = record { result = Err why; after = b }
+by_ranges b (Ok rs) = record { result = Ok (ranges rs); after = b }
 
 -- that a batch was stopped is a result
 abbrev pub by_batch : Buffer → CallResult Batch → Reply
-by_batch b (refused why) = record { result = refused why; after = b }
-by_batch b (done r) = record { result = done (accepted r.accepted r.stop r.outcome.lines); after = r.outcome.after }
+by_batch b (Err why) = record { result = Err why; after = b }
+by_batch b (Ok r) = record { result = Ok (accepted r.accepted r.stop r.outcome.lines); after = r.outcome.after }
 
 abbrev pub by_walked : Buffer → CallResult ℕ → Reply
-by_walked b (refused why) = record { result = refused why; after = b }
-by_walked b (done n) = record { result = done (taken n); after = b }
+by_walked b (Err why) = record { result = Err why; after = b }
+by_walked b (Ok n) = record { result = Ok (taken n); after = b }
 
 abbrev pub by_seek : Buffer → CallResult Start → Reply
-by_seek b (refused why) = record { result = refused why; after = b }
-by_seek b (done s) = record { result = done (decoding s); after = b }
+by_seek b (Err why) = record { result = Err why; after = b }
+by_seek b (Ok s) = record { result = Ok (decoding s); after = b }
 
 unfoldable pub reply_to : Call → Buffer → Reply
 reply_to (append_call lent f) b = by_outcome b (append lent f b)
 reply_to (remove_call lent start end) b = by_outcome b (remove lent start end b)
 reply_to abort_call b = by_setting b (abort b)
-reply_to (mode_call m) b = record { result = done ok; after = mode_set m b }
+reply_to (mode_call m) b = record { result = Ok ok; after = mode_set m b }
 reply_to (offset_call x) b = by_setting b (offset_set x b)
 reply_to (window_start_call x) b = by_setting b (window_start_set x b)
 reply_to (window_end_call x) b = by_setting b (window_end_set x b)
-reply_to read_call b = record { result = done (settings (reading b)); after = b }
+reply_to read_call b = record { result = Ok (settings (reading b)); after = b }
 reply_to (ranges_call lent track) b = by_ranges b (track_ranges lent track b)
 reply_to (common_call lent) b = by_ranges b (common_ranges lent b)
 reply_to (batch_call lent fs) b = by_batch b (batch lent fs b)
@@ -107,14 +109,14 @@ last_of b (c ∷ cs) = last_of (reply_to c b).after cs
 
 -- A list may be lent again; what counts is what it holds, up to the count, when its call returns.
 abbrev pub lines_in : CallResult Answer → List Line
-lines_in (refused why) = []
-lines_in (done ok) = []
-lines_in (done (fates ls)) = ls
-lines_in (done (settings r)) = []
-lines_in (done (ranges rs)) = []
-lines_in (done (accepted n stop ls)) = ls
-lines_in (done (taken n)) = []
-lines_in (done (decoding s)) = []
+lines_in (Err why) = []
+lines_in (Ok ok) = []
+lines_in (Ok (fates ls)) = ls
+lines_in (Ok (settings r)) = []
+lines_in (Ok (ranges rs)) = []
+lines_in (Ok (accepted n stop ls)) = ls
+lines_in (Ok (taken n)) = []
+lines_in (Ok (decoding s)) = []
 
 -- the lines that a run hands out
 unfoldable pub handed_out : List Entry → List Line
@@ -123,20 +125,20 @@ handed_out (e ∷ es) = lines_in e.result ++ handed_out es
 
 -- how many frames of a batch were accepted
 abbrev pub accepted_in : CallResult Answer → ℕ
-accepted_in (refused why) = 0
-accepted_in (done ok) = 0
-accepted_in (done (fates ls)) = 0
-accepted_in (done (settings r)) = 0
-accepted_in (done (ranges rs)) = 0
-accepted_in (done (accepted n stop ls)) = n
-accepted_in (done (taken n)) = 0
-accepted_in (done (decoding s)) = 0
+accepted_in (Err why) = 0
+accepted_in (Ok ok) = 0
+accepted_in (Ok (fates ls)) = 0
+accepted_in (Ok (settings r)) = 0
+accepted_in (Ok (ranges rs)) = 0
+accepted_in (Ok (accepted n stop ls)) = n
+accepted_in (Ok (taken n)) = 0
+accepted_in (Ok (decoding s)) = 0
 
 -- The tracks of the frames offered by a call: of an append that is not refused, the one that it names; of a batch those that its
 -- accepted frames name, in list order.
 abbrev pub offered_by : Call → CallResult Answer → List ℕ
-offered_by (append_call lent f) (refused why) = []
-offered_by (append_call lent f) (done a) = f.track ∷ []
+offered_by (append_call lent f) (Err why) = []
+offered_by (append_call lent f) (Ok a) = f.track ∷ []
 offered_by (remove_call lent start end) r = []
 offered_by abort_call r = []
 offered_by (mode_call m) r = []

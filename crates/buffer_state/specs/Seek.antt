@@ -1,11 +1,12 @@
 -- Document 02, No. 6: where to start decoding, so that a track shows what it has at an instant.
-use Rattle.std.specs.Prelude.{Bool, true, false, cond, not, ◌&&◌, ◌||◌, List, [], ◌∷◌, ℕ, ltb, eqb, ℤ, length}
+use Rattle.std.specs.Prelude.{Bool, true, false, cond, not, ◌&&◌, ◌||◌, List, [], ◌∷◌, ℕ, ltb, eqb, ℤ, length, Ok, Err}
 use Rattle.std.specs.Int.Signed.{lt_z}
 use Rattle.buffer_state.specs.declared.Frame.{Frame}
 use Rattle.buffer_state.specs.declared.Refusal.TheVariants.{NoTrack, NoStart}
+use Rattle.buffer_state.specs.declared.Start.{Start}
 use Rattle.buffer_state.specs.Buffer.{Buffer, has_track}
 use Rattle.buffer_state.specs.Ranges.{covers}
-use Rattle.buffer_state.specs.Refusals.{CallResult, refused, done, refuse_if}
+use Rattle.buffer_state.specs.Refusals.{CallResult, refuse_if}
 use Rattle.buffer_state.specs.Store.{is_before, is_of}
 use Rattle.buffer_state.specs.WellFormed.{all_of}
 
@@ -56,19 +57,13 @@ to_decode f fs = from_flagged (up_to f fs)
 
 -- ---- the call
 
--- The target's number, the flagged frame's, and the count of frames to decode.
-pub record Start : Type 0 where
-  pub target : ℕ
-  pub flagged : ℕ
-  pub count : ℕ
-
--- to a target, by the frames to decode; without any there is no start
+-- To a target, by the frames to decode: its number, the flagged frame's, and the count of frames. Without any there is no start.
 abbrev pub start_by : Frame → List Frame → CallResult Start
-start_by f [] = refused NoStart
-start_by f (g ∷ gs) = done (record { target = f.number; flagged = g.number; count = length (g ∷ gs) })
+start_by f [] = Err NoStart
+start_by f (g ∷ gs) = Ok (record { target = f.number; flagged = g.number; count = length (g ∷ gs) })
 
 abbrev pub start_to : Target → List Frame → CallResult Start
-start_to none fs = refused NoStart
+start_to none fs = Err NoStart
 start_to (picked f) fs = start_by f (to_decode f fs)
 
 -- Where to start decoding for a track and an instant in microseconds: refusals (1,) 3, 15 in that order. 15 if no frame covers the

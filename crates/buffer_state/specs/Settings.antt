@@ -1,9 +1,10 @@
 -- Document 01, "Removing, aborting, setting" and "Times and numbers": creating, aborting, setting and reading the settings.
-use Rattle.std.specs.Prelude.{true, cond, not, ◌||◌, List, ℕ, ltb, eqb, ℤ, pos, Float, length}
+use Rattle.std.specs.Prelude.{true, cond, not, ◌||◌, List, ℕ, ltb, eqb, ℤ, pos, Float, length, Ok}
 use Rattle.std.specs.Int.Signed.{lt_z}
 use Rattle.seconds.specs.Seconds.{Bound, unbounded, at, is_convertible, is_convertible_end, micros_of, bound_of, zero_seconds}
 use Rattle.buffer_state.specs.declared.Mode.{Mode}
 use Rattle.buffer_state.specs.declared.Mode.TheVariants.{Segments, Sequence}
+use Rattle.buffer_state.specs.declared.Reading.{Reading}
 use Rattle.buffer_state.specs.declared.Setting.{Setting}
 use Rattle.buffer_state.specs.declared.Settings.{Settings}
 use Rattle.buffer_state.specs.declared.WindowEnd.{WindowEnd}
@@ -11,7 +12,7 @@ use Rattle.buffer_state.specs.declared.WindowEnd.TheVariants.{Unbounded, At}
 use Rattle.buffer_state.specs.declared.Refusal.TheVariants.{Seconds, Order, LastNumber, Kinds}
 use Rattle.buffer_state.specs.Buffer.{Buffer, with_mode, with_group, with_settings, restart_all, is_sequence, start_at_end, in_next_group, in_last_group, fresh}
 use Rattle.buffer_state.specs.Limits.{most_tracks, known_kind}
-use Rattle.buffer_state.specs.Refusals.{CallResult, done, refuse_if}
+use Rattle.buffer_state.specs.Refusals.{CallResult, refuse_if}
 use Rattle.buffer_state.specs.Remove.{before_bound}
 use Rattle.buffer_state.specs.WellFormed.{all_of}
 
@@ -21,7 +22,7 @@ use Rattle.buffer_state.specs.WellFormed.{all_of}
 unfoldable pub create : List ℕ → CallResult Buffer
 create kinds =
     refuse_if (eqb (length kinds) 0 || (ltb most_tracks (length kinds) || not (all_of known_kind kinds))) Kinds
-    (done (fresh kinds))
+    (Ok (fresh kinds))
 
 -- ---- abort: refusals (1,) 9
 
@@ -39,7 +40,7 @@ aborted_buffer b = in_next_group (record {
 
 -- Refusal 9 in the last group, also where nothing is set.
 unfoldable pub abort : Buffer → CallResult Buffer
-abort b = refuse_if (in_last_group b) LastNumber (done (aborted_buffer b))
+abort b = refuse_if (in_last_group b) LastNumber (Ok (aborted_buffer b))
 
 -- ---- mode: refused by 1 alone
 
@@ -59,7 +60,7 @@ offset_set x b =
     let s = b.settings in
     let c = with_settings b (record { offset = given x; start = s.start; end = s.end; limit = s.limit }) in
     refuse_if (not (is_convertible x)) Seconds
-    (done (cond (is_sequence b.mode) (with_group c (record { begun = true; start = micros_of x; end = b.group.end; number = b.group.number })) c))
+    (Ok (cond (is_sequence b.mode) (with_group c (record { begun = true; start = micros_of x; end = b.group.end; number = b.group.number })) c))
 
 -- the window end in microseconds
 abbrev pub bound_at : WindowEnd → ℤ → Bound
@@ -75,7 +76,7 @@ window_start_set x b =
     let s = b.settings in
     refuse_if (not (is_convertible x)) Seconds
     (refuse_if (lt_z (micros_of x) (pos 0) || not (before_bound (micros_of x) (window_end s))) Order
-    (done (with_settings b (record { offset = s.offset; start = given x; end = s.end; limit = s.limit }))))
+    (Ok (with_settings b (record { offset = s.offset; start = given x; end = s.end; limit = s.limit }))))
 
 -- Plus infinity sets the end unbounded, its double and microseconds unset.
 abbrev pub end_at : Float → Bound → WindowEnd
@@ -92,15 +93,10 @@ window_end_set x b =
     let s = b.settings in
     refuse_if (not (is_convertible_end x)) Seconds
     (refuse_if (not (before_bound s.start.micros (bound_of x))) Order
-    (done (with_settings b (record { offset = s.offset; start = s.start; end = end_at x (bound_of x); limit = limit_at (bound_of x) }))))
+    (Ok (with_settings b (record { offset = s.offset; start = s.start; end = end_at x (bound_of x); limit = limit_at (bound_of x) }))))
 
 -- ---- reading the settings: refused by 1 alone
 
 -- The three doubles kept, bit for bit; a window end may be unbounded.
-pub record Reading : Type 0 where
-  pub offset : Float
-  pub start : Float
-  pub end : WindowEnd
-
 abbrev pub reading : Buffer → Reading
 reading b = record { offset = b.settings.offset.seconds; start = b.settings.start.seconds; end = b.settings.end }

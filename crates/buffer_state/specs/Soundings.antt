@@ -2,7 +2,7 @@
 -- proof of all; with them two refused calls of L in the midst of a run, two removals of our own, batches (document 02, No. 2), how many frames
 -- the walk of a report takes (No. 3), coded frame groups (No. 4), and where to start decoding (No. 6). K is as No. 7 has it.
 -- Video, one track, durations 100; R is a flagged frame, P one that is not, both given by presentation and decode time.
-use Rattle.std.specs.Prelude.{◌≡◌, refl, Bool, true, false, List, [], ◌∷◌, ◌++◌, map, ℕ, ℤ, pos, neg_ℤ, Float, replicate}
+use Rattle.std.specs.Prelude.{◌≡◌, refl, Bool, true, false, List, [], ◌∷◌, ◌++◌, map, ℕ, ℤ, pos, neg_ℤ, Float, replicate, Ok, Err, None, Some}
 use Rattle.std.specs.Float.{binary64}
 use Rattle.std.specs.Float.Ieee.{of_bits, of_int, div}
 use Rattle.seconds.specs.Seconds.{tie_of, round_of, nearest_of, is_convertible, is_convertible_end, micros_of, seconds_of, bound_of, zero_seconds, same_int, same_double}
@@ -12,11 +12,10 @@ use Rattle.buffer_state.specs.declared.Mode.TheVariants.{Segments, Sequence}
 use Rattle.buffer_state.specs.declared.Group.{Group}
 use Rattle.buffer_state.specs.declared.Offered.{Offered}
 use Rattle.buffer_state.specs.declared.Refusal.TheVariants.{FrameLimits, LastNumber, LentSize, NoStart, NoTrack, Order, Seconds, ShortFates}
-use Rattle.buffer_state.specs.declared.Stop.TheVariants.{Nothing, By}
 use Rattle.buffer_state.specs.declared.WindowEnd.TheVariants.{Unbounded, At}
 use Rattle.buffer_state.specs.Buffer.{Buffer, fresh, fresh_track, fresh_settings, with_settings}
 use Rattle.buffer_state.specs.Limits.{offered_time, result_time, good_duration, places, last_group}
-use Rattle.buffer_state.specs.Refusals.{CallResult, refused, done}
+use Rattle.buffer_state.specs.Refusals.{CallResult}
 use Rattle.buffer_state.specs.Store.{is_before, insert_sorted, follows_taken, walk_from, kept, Line, lines_of}
 use Rattle.buffer_state.specs.Append.{step_one, step_two, pass_of, fits, moved, regrouped_buffer, breaks, second_pass, last_pass, leaves_limits, lacks_group, is_overlapped, overlap_marks, step_nine, stored, settled, appended_outcome, is_offerable, append}
 use Rattle.buffer_state.specs.Batch.{offered_in, append_each, batch}
@@ -77,7 +76,7 @@ abbrev ending_group : ℕ → ℕ → Group
 ending_group group e = record { begun = false; start = pos 0; end = pos e; number = group }
 
 abbrev told_answer : List Line → CallResult Answer
-told_answer ls = done (fates ls)
+told_answer ls = Ok (fates ls)
 
 abbrev line : ℕ → ℕ → Line
 line n cause = record { number = n; cause = cause }
@@ -152,7 +151,7 @@ case_d = record {
 abbrev case_e : Case
 case_e = record {
   calls = R 0 0 ∷ P 100 100 ∷ P 200 200 ∷ R 300 300 ∷ abort_call ∷ R 100 100 ∷ [];
-  results = told_answer [] ∷ told_answer [] ∷ told_answer [] ∷ told_answer [] ∷ done ok ∷ told_answer (line 2 4 ∷ line 3 5 ∷ []) ∷ [];
+  results = told_answer [] ∷ told_answer [] ∷ told_answer [] ∷ told_answer [] ∷ Ok ok ∷ told_answer (line 2 4 ∷ line 3 5 ∷ []) ∷ [];
   left = plain_in 1 (following_track 100 200) (frame 1 true 0 0 ∷ frame_of 1 5 true 100 100 ∷ frame 4 true 300 300 ∷ []) 400 5;
   ranges = range 0 200 ∷ range 300 400 ∷ [];
 }
@@ -161,7 +160,7 @@ case_e = record {
 abbrev case_f : Case
 case_f = record {
   calls = R 0 0 ∷ abort_call ∷ R 200 0 ∷ P 0 100 ∷ [];
-  results = told_answer [] ∷ done ok ∷ told_answer [] ∷ told_answer [] ∷ [];
+  results = told_answer [] ∷ Ok ok ∷ told_answer [] ∷ told_answer [] ∷ [];
   left = plain_in 1 (following_track 100 300) (frame 1 true 0 0 ∷ frame_of 1 2 true 200 0 ∷ frame_of 1 3 false 0 100 ∷ []) 300 3;
   ranges = range 0 100 ∷ range 200 300 ∷ [];
 }
@@ -171,7 +170,7 @@ case_f = record {
 abbrev case_g : Case
 case_g = record {
   calls = mode_call Sequence ∷ R 5000 4900 ∷ R 9000 8900 ∷ [];
-  results = done ok ∷ told_answer [] ∷ told_answer [] ∷ [];
+  results = Ok ok ∷ told_answer [] ∷ told_answer [] ∷ [];
   left = record {
     tracks = following_track 0 200 ∷ [];
     frames = frame_at 0 1 true (pos 0) (neg_ℤ (pos 100)) ∷ frame_of 1 2 true 100 0 ∷ [];
@@ -210,7 +209,7 @@ case_i = record {
 abbrev case_j : ℕ → List Line → Track → List Frame → ℕ → List Range → Case
 case_j p lines t fs e rs = record {
   calls = window_start_call at50 ∷ window_end_call at150 ∷ R p p ∷ [];
-  results = done ok ∷ done ok ∷ told_answer lines ∷ [];
+  results = Ok ok ∷ Ok ok ∷ told_answer lines ∷ [];
   left = record {
     tracks = t ∷ [];
     frames = fs;
@@ -226,7 +225,7 @@ case_j p lines t fs e rs = record {
 abbrev case_k : ℕ → ℤ → Case
 case_k bits z = record {
   calls = offset_call (double bits) ∷ [];
-  results = done ok ∷ [];
+  results = Ok ok ∷ [];
   left = record {
     tracks = waiting_track ∷ [];
     frames = [];
@@ -248,7 +247,7 @@ at7813 = double 0x3f80_0043_1bde_82d8
 abbrev case_k_order : Case
 case_k_order = record {
   calls = window_start_call half7812 ∷ window_end_call at7813 ∷ removing half7812 at7813 ∷ [];
-  results = done ok ∷ refused Order ∷ refused Order ∷ [];
+  results = Ok ok ∷ Err Order ∷ Err Order ∷ [];
   left = with_settings (fresh (0 ∷ [])) (record { offset = fresh_settings.offset; start = record { seconds = half7812; micros = pos 7813 }; end = Unbounded; limit = pos 0 });
   ranges = [];
 }
@@ -262,7 +261,7 @@ case_l = record {
       ∷ offset_call (double 0x412e_8480_0000_0001)
       ∷ P 100 100
       ∷ [];
-  results = told_answer [] ∷ refused FrameLimits ∷ refused Seconds ∷ told_answer [] ∷ [];
+  results = told_answer [] ∷ Err FrameLimits ∷ Err Seconds ∷ told_answer [] ∷ [];
   left = case_a.left;
   ranges = case_a.ranges;
 }
@@ -300,12 +299,12 @@ case_o = record {
       ∷ batch_call 1088 (offer true 100 100 ∷ brief_frame ∷ offer false 200 200 ∷ [])
       ∷ [];
   results =
-      done (accepted 4 Nothing [])
-      ∷ done (accepted 0 Nothing [])
-      ∷ refused LentSize
-      ∷ refused ShortFates
-      ∷ done ok
-      ∷ done (accepted 1 (By FrameLimits) (line 2 4 ∷ line 3 5 ∷ []))
+      Ok (accepted 4 None [])
+      ∷ Ok (accepted 0 None [])
+      ∷ Err LentSize
+      ∷ Err ShortFates
+      ∷ Ok ok
+      ∷ Ok (accepted 1 (Some FrameLimits) (line 2 4 ∷ line 3 5 ∷ []))
       ∷ [];
   left = case_e.left;
   ranges = case_e.ranges;
@@ -316,7 +315,7 @@ case_o = record {
 abbrev case_p : Case
 case_p = record {
   calls = batch_call 1088 (offer false 0 0 ∷ offer true 0 0 ∷ offer true 100 100 ∷ offer true 0 0 ∷ []) ∷ [];
-  results = done (accepted 4 Nothing (line 1 3 ∷ line 2 4 ∷ [])) ∷ [];
+  results = Ok (accepted 4 None (line 1 3 ∷ line 2 4 ∷ [])) ∷ [];
   left = plain_in 1 (following_track 0 100) (frame_of 1 4 true 0 0 ∷ frame 3 true 100 100 ∷ []) 100 4;
   ranges = range 0 200 ∷ [];
 }
@@ -335,13 +334,13 @@ case_q = record {
       ++ walked_call 3 2
       ∷ [];
   results =
-      done (taken 0)
+      Ok (taken 0)
       ∷ told_answer []
       ∷ told_answer []
       ∷ told_answer []
       ∷ told_answer []
-      ∷ map (λ (n : ℕ). done (taken n)) (4 ∷ 4 ∷ 3 ∷ 1 ∷ [])
-      ++ refused NoTrack
+      ∷ map (λ (n : ℕ). Ok (taken n)) (4 ∷ 4 ∷ 3 ∷ 1 ∷ [])
+      ++ Err NoTrack
       ∷ [];
   left =
       plain_buffer (following_track 300 600) (frame 1 true 0 0 ∷ frame 2 false 300 100 ∷ frame 3 false 100 200 ∷ frame 4 false 500 300 ∷ []) 600 4;
@@ -352,7 +351,7 @@ case_q = record {
 abbrev case_r : Case
 case_r = record {
   calls = case_f.calls ++ walked_call 1 1 ∷ [];
-  results = case_f.results ++ done (taken 3) ∷ [];
+  results = case_f.results ++ Ok (taken 3) ∷ [];
   left = case_f.left;
   ranges = case_f.ranges;
 }
@@ -361,7 +360,7 @@ case_r = record {
 abbrev case_s : Case
 case_s = record {
   calls = R 0 0 ∷ P 400 150 ∷ abort_call ∷ R 200 100 ∷ P 300 200 ∷ P 400 250 ∷ [];
-  results = told_answer [] ∷ told_answer [] ∷ done ok ∷ told_answer [] ∷ told_answer [] ∷ told_answer (line 2 4 ∷ []) ∷ [];
+  results = told_answer [] ∷ told_answer [] ∷ Ok ok ∷ told_answer [] ∷ told_answer [] ∷ told_answer (line 2 4 ∷ []) ∷ [];
   left =
       plain_in 1 (following_track 250 500)
       (frame 1 true 0 0 ∷ frame_of 1 3 true 200 100 ∷ frame_of 1 4 false 300 200 ∷ frame_of 1 5 false 400 250 ∷ []) 500 5;
@@ -373,7 +372,7 @@ case_s = record {
 abbrev case_t : Case
 case_t = record {
   calls = R 0 0 ∷ P 500 150 ∷ abort_call ∷ R 100 50 ∷ P 200 200 ∷ R 300 250 ∷ removing at50 at150 ∷ [];
-  results = told_answer [] ∷ told_answer [] ∷ done ok ∷ told_answer [] ∷ told_answer [] ∷ told_answer [] ∷ told_answer (line 3 6 ∷ line 4 6 ∷ []) ∷ [];
+  results = told_answer [] ∷ told_answer [] ∷ Ok ok ∷ told_answer [] ∷ told_answer [] ∷ told_answer [] ∷ told_answer (line 3 6 ∷ line 4 6 ∷ []) ∷ [];
   left = plain_in 1 (following_track 250 400) (frame 1 true 0 0 ∷ frame 2 false 500 150 ∷ frame_of 1 5 true 300 250 ∷ []) 600 5;
   ranges = range 0 100 ∷ range 300 400 ∷ range 500 600 ∷ [];
 }
@@ -383,7 +382,7 @@ case_t = record {
 abbrev case_u : Case
 case_u = record {
   calls = R 0 0 ∷ P 500 150 ∷ abort_call ∷ R 100 50 ∷ P 200 200 ∷ R 300 250 ∷ removing zero_seconds at50 ∷ [];
-  results = told_answer [] ∷ told_answer [] ∷ done ok ∷ told_answer [] ∷ told_answer [] ∷ told_answer [] ∷ told_answer (line 1 6 ∷ line 2 5 ∷ []) ∷ [];
+  results = told_answer [] ∷ told_answer [] ∷ Ok ok ∷ told_answer [] ∷ told_answer [] ∷ told_answer [] ∷ told_answer (line 1 6 ∷ line 2 5 ∷ []) ∷ [];
   left = plain_in 1 (following_track 250 400) (frame_of 1 3 true 100 50 ∷ frame_of 1 4 false 200 200 ∷ frame_of 1 5 true 300 250 ∷ []) 600 5;
   ranges = range 100 400 ∷ [];
 }
@@ -392,7 +391,7 @@ case_u = record {
 abbrev case_w : Case
 case_w = record {
   calls = R 0 0 ∷ P 500 150 ∷ abort_call ∷ R 100 50 ∷ abort_call ∷ R 0 0 ∷ [];
-  results = told_answer [] ∷ told_answer [] ∷ done ok ∷ told_answer [] ∷ done ok ∷ told_answer (line 1 4 ∷ line 2 5 ∷ []) ∷ [];
+  results = told_answer [] ∷ told_answer [] ∷ Ok ok ∷ told_answer [] ∷ Ok ok ∷ told_answer (line 1 4 ∷ line 2 5 ∷ []) ∷ [];
   left = plain_in 2 (following_track 0 100) (frame_of 2 4 true 0 0 ∷ frame_of 1 3 true 100 50 ∷ []) 600 4;
   ranges = range 0 200 ∷ [];
 }
@@ -403,11 +402,11 @@ abbrev case_x : Case
 case_x = record {
   calls = abort_call ∷ R 0 0 ∷ P 100 100 ∷ P 400 301 ∷ removing at50 at150 ∷ R 200 200 ∷ removing at50 at150 ∷ [];
   results =
-      refused LastNumber
+      Err LastNumber
       ∷ told_answer []
       ∷ told_answer []
-      ∷ refused LastNumber
-      ∷ refused LastNumber
+      ∷ Err LastNumber
+      ∷ Err LastNumber
       ∷ told_answer []
       ∷ told_answer (line 2 6 ∷ [])
       ∷ [];
@@ -417,7 +416,7 @@ case_x = record {
 
 -- an answer to a seek: target, flagged frame, how many frames to decode
 abbrev decode : ℕ → ℕ → ℕ → CallResult Answer
-decode target flagged n = done (decoding (record { target = target; flagged = flagged; count = n }))
+decode target flagged n = Ok (decoding (record { target = target; flagged = flagged; count = n }))
 
 -- Ours: the frames of case T, store order 1, 3, 2, 4, 5. From 2 the walk goes back to 1 past 3, which is flagged and of another group; 2 is
 -- not counted on the way from 4 to 3; 5 is its own start. A frame's end, what is before the first frame and another track have no target.
@@ -428,9 +427,9 @@ case_y = record {
       ∷ seek_call 1 (pos 550) ∷ seek_call 1 (pos 250) ∷ seek_call 1 (pos 399) ∷ seek_call 1 (pos 0)
       ∷ seek_call 1 (pos 400) ∷ seek_call 1 (neg_ℤ (pos 1)) ∷ seek_call 2 (pos 0) ∷ [];
   results =
-      told_answer [] ∷ told_answer [] ∷ done ok ∷ told_answer [] ∷ told_answer [] ∷ told_answer []
+      told_answer [] ∷ told_answer [] ∷ Ok ok ∷ told_answer [] ∷ told_answer [] ∷ told_answer []
       ∷ decode 2 1 2 ∷ decode 4 3 2 ∷ decode 5 5 1 ∷ decode 1 1 1
-      ∷ refused NoStart ∷ refused NoStart ∷ refused NoTrack ∷ [];
+      ∷ Err NoStart ∷ Err NoStart ∷ Err NoTrack ∷ [];
   left =
       plain_in 1 (following_track 250 400)
       (frame 1 true 0 0 ∷ frame_of 1 3 true 100 50 ∷ frame 2 false 500 150 ∷ frame_of 1 4 false 200 200 ∷ frame_of 1 5 true 300 250 ∷ []) 600 5;
@@ -454,7 +453,7 @@ unled_buffer = plain_in 1 (following_track 200 300) (frame_of 1 3 true 0 0 ∷ f
 abbrev case_z_unled : Case
 case_z_unled = record {
   calls = seek_call 1 (pos 100) ∷ seek_call 1 (pos 0) ∷ seek_call 1 (pos 200) ∷ [];
-  results = refused NoStart ∷ decode 3 3 1 ∷ decode 2 2 1 ∷ [];
+  results = Err NoStart ∷ decode 3 3 1 ∷ decode 2 2 1 ∷ [];
   left = unled_buffer;
   ranges = range 0 300 ∷ [];
 }

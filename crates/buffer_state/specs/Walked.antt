@@ -1,11 +1,11 @@
 -- Document 02, No. 3: how many frames the walk of a track's report takes. The report itself is that of document 01.
-use Rattle.std.specs.Prelude.{not, cond, List, [], ◌∷◌, ℕ, zero, suc, eqb, ℤ}
+use Rattle.std.specs.Prelude.{not, cond, List, [], ◌∷◌, ℕ, zero, suc, eqb, ℤ, Ok}
 use Rattle.std.specs.Int.Signed.{lt_z}
 use Rattle.buffer_state.specs.declared.Frame.{Frame}
 use Rattle.buffer_state.specs.declared.Refusal.TheVariants.{NoTrack}
 use Rattle.buffer_state.specs.Buffer.{Buffer, has_track, end_of}
 use Rattle.buffer_state.specs.Ranges.{Range, greater_of}
-use Rattle.buffer_state.specs.Refusals.{CallResult, done, refuse_if}
+use Rattle.buffer_state.specs.Refusals.{CallResult, refuse_if}
 
 -- ---- presentation order
 
@@ -46,4 +46,4 @@ taken_of (suc room) (q ∷ qs) = suc (taken_from q.end room qs)
 -- How many frames the report of a track takes with so many places lent: refusals (1,) 3, as the report's. It is there also where the
 -- report is refused 10.
 unfoldable pub walked : ℕ → ℕ → Buffer → CallResult ℕ
-walked lent track b = refuse_if (not (has_track b track)) NoTrack (done (taken_of lent (presented track b.frames)))
+walked lent track b = refuse_if (not (has_track b track)) NoTrack (Ok (taken_of lent (presented track b.frames)))

@@ -4,8 +4,10 @@
 #![tactic(auto)]
 
 ghost use Rattle.std.specs.Prelude.{◌≡◌};
-ghost use Rattle.buffer_state.specs.Answers.{counted};
-ghost use Rattle.buffer_state.specs.Refusals.{refusal_number, stop_number, refused};
+ghost use Rattle.buffer_state.specs.declared.Refusal.TheVariants.{Seconds};
+ghost use Rattle.buffer_state.specs.Refusals.{refusal_number, stop_number};
+
+use seconds::OutOfRange;
 
 // A coded frame as offered to an append. Times are microseconds.
 #[derive(Clone, Copy)]
@@ -102,136 +104,71 @@ pub struct Head {
     pub settings: Settings,
 }
 
-// Why a call is refused, in the order of the table of documents 01 and 02; specs/Refusals.antt gives the numbers.
-#[derive(Clone, Copy)]
+// Why a call is refused, by its refusal number in the table of documents 01 and 02, whose order is the order in which a call gives them.
+#[derive(Clone, Copy, Debug, PartialEq, Eq)]
 pub enum Refusal {
-    IllFormed,
-    ShortFates,
-    NoTrack,
-    FrameLimits,
-    Seconds,
-    Order,
-    ResultLimits,
-    Full,
-    LastNumber,
-    ShortList,
-    Kinds,
-    Malformed, // a segment; this and what follows are of document 02
-    LentSize, // what is lent has a size that the call does not take
-    LargeFragment, // a movie fragment box over 65,536 bytes, in lumps
-    NoStart, // no frame covers the instant, or no random access point leads to the one that does
+    IllFormed = 1,
+    ShortFates = 2,
+    NoTrack = 3,
+    FrameLimits = 4,
+    Seconds = 5,
+    Order = 6,
+    ResultLimits = 7,
+    Full = 8,
+    LastNumber = 9,
+    ShortList = 10,
+    Kinds = 11,
+    Malformed = 12, // a segment; this and what follows are of document 02
+    LentSize = 13, // what is lent has a size that the call does not take
+    LargeFragment = 14, // a movie fragment box over 65,536 bytes, in lumps
+    NoStart = 15, // no frame covers the instant, or no random access point leads to the one that does
 }
 
-// The number that the table gives it.
-pub fn refusal_number(why: Refusal) -> u32
-    ensures { result ≡ refusal_number why }
-{
-    match why {
-        Refusal::IllFormed => 1,
-        Refusal::ShortFates => 2,
-        Refusal::NoTrack => 3,
-        Refusal::FrameLimits => 4,
-        Refusal::Seconds => 5,
-        Refusal::Order => 6,
-        Refusal::ResultLimits => 7,
-        Refusal::Full => 8,
-        Refusal::LastNumber => 9,
-        Refusal::ShortList => 10,
-        Refusal::Kinds => 11,
-        Refusal::Malformed => 12,
-        Refusal::LentSize => 13,
-        Refusal::LargeFragment => 14,
-        Refusal::NoStart => 15,
+impl Refusal {
+    // The number that the table gives it.
+    pub fn number(self) -> u32
+        ensures { result ≡ refusal_number self }
+    {
+        self as u32
     }
 }
 
-// What creation, abort and the setters answer, and the head that they hand back: after a refusal the one that they were handed, or
-// zeros where a creation was refused.
-#[derive(Clone, Copy)]
-pub enum Answer {
-    Done,
-    Refused(Refusal),
-}
+impl From<OutOfRange> for Refusal {
+    ghost from_gives = { λ _ why. why ≡ Seconds };
 
-#[derive(Clone, Copy)]
-pub struct Changed {
-    pub answer: Answer,
-    pub head: Head,
-}
-
-// What reading the settings answers: the doubles kept, bit for bit, and whether there is a window end.
-#[derive(Clone, Copy)]
-pub enum Read {
-    Bounded { offset: f64, start: f64, end: f64 },
-    Unbounded { offset: f64, start: f64 },
-    Refused(Refusal),
-}
-
-// What append, remove and the range reports answer: how many fate lines or ranges they wrote.
-#[derive(Clone, Copy)]
-pub enum Count {
-    Done(usize),
-    Refused(Refusal),
-}
-
-#[derive(Clone, Copy)]
-pub struct Counted {
-    pub answer: Count,
-    pub head: Head,
-}
-
-// A call that writes lines and is refused hands back the head as it was.
-pub fn refuse(h: Head, why: Refusal) -> Counted
-    ensures { result ≡ counted h (refused why) }
-{
-    Counted {
-        answer: Count::Refused(why),
-        head: h,
+    fn from(_why: OutOfRange) -> Refusal {
+        Refusal::Seconds
     }
 }
 
-// What stopped a batch, if anything did: the refusal of a frame.
+// What reading the settings gives: the doubles kept, bit for bit, and the window end.
 #[derive(Clone, Copy)]
-pub enum Stop {
-    Nothing,
-    By(Refusal),
+pub struct Reading {
+    pub offset: f64,
+    pub start: f64,
+    pub end: WindowEnd,
 }
 
-// That refusal's number, 0 where nothing did.
-pub fn stop_number(stop: Stop) -> u32
+// What a batch gives: how many frames were accepted, how many fate lines were written, and the refusal of a frame that stopped it, if one did.
+#[derive(Clone, Copy)]
+pub struct Accepted {
+    pub frames: usize,
+    pub lines: usize,
+    pub stop: Option<Refusal>,
+}
+
+// The number of what stopped a batch, 0 where nothing did.
+pub fn stop_number(stop: Option<Refusal>) -> u32
     ensures { result ≡ stop_number stop }
 {
-    match stop {
-        Stop::Nothing => 0,
-        Stop::By(why) => refusal_number(why),
-    }
+    stop.map_or(0, Refusal::number)
 }
 
-// What a batch answers: how many frames were accepted, how many fate lines were written, and what stopped it.
+// What a seek gives: the number of the frame that covers the instant, the number of the random access point from which to decode, and how
+// many frames to decode from that one to the first, both counted.
 #[derive(Clone, Copy)]
-pub enum Accepted {
-    Done {
-        frames: usize,
-        lines: usize,
-        stop: Stop,
-    },
-    Refused(Refusal),
-}
-
-#[derive(Clone, Copy)]
-pub struct Batched {
-    pub answer: Accepted,
-    pub head: Head,
-}
-
-// What a seek answers: the number of the frame that covers the instant, the number of the random access point from which to decode, and
-// how many frames to decode from that one to the first, both counted.
-#[derive(Clone, Copy)]
-pub enum Sought {
-    Found {
-        target: u32,
-        flagged: u32,
-        count: usize,
-    },
-    Refused(Refusal),
+pub struct Start {
+    pub target: u32,
+    pub flagged: u32,
+    pub count: usize,
 }

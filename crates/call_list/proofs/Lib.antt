@@ -1,5 +1,5 @@
-pub mod PartLaws
-pub mod ListedLaws
-pub mod ShapeLaws
-pub mod LoopLaws
 pub mod ClaimLaws
+pub mod ListedLaws
+pub mod LoopLaws
+pub mod PartLaws
+pub mod ShapeLaws

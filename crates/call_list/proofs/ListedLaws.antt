@@ -1,4 +1,5 @@
 -- A run grows by a call: what it hands out, what the lists hold, and how much room is left.
+use Rattle.std.specs.Prelude.{Ok, Err}
 use mathlib.Core.Path.{◌≡◌, refl, sym, ap, ◌∙◌}
 use mathlib.Core.List.{List, [], ◌∷◌, ◌++◌, map, append_assoc, append-nil}
 use Prim.Native.Nat.{ℕ, zero, suc, ◌+◌, ◌≤◌, ◌<◌}
@@ -9,7 +10,7 @@ use lib.ListN.{length, take, drop, set, length-append, length-drop, length-map, 
 use lib.Seq.{take_at, set_split, drop-append-add, drop-drop}
 use Rattle.buffer_state.specs.declared.Offered.{Offered}
 use Rattle.buffer_state.specs.Buffer.{Buffer}
-use Rattle.buffer_state.specs.Refusals.{CallResult, refused, done}
+use Rattle.buffer_state.specs.Refusals.{CallResult}
 use Rattle.buffer_state.specs.Run.{Call, append_call, remove_call, abort_call, mode_call, offset_call, window_start_call, window_end_call, read_call, ranges_call, common_call, batch_call, walked_call, seek_call, Answer, Entry, reply_to, run, last_of, lines_in, handed_out, accepted_in, offered_by, offers, total}
 use Rattle.buffer_state.specs.Store.{Line}
 use Rattle.buffer_laws.proofs.CallLaws.{numbers_after, total-ones}
@@ -112,8 +113,8 @@ take-few : {A : Type 0} (n : ℕ) (l : List A) → length (take n l) ≤ length 
 take-few n l = omega (arith, ap length (take-append-drop n l), length-append (take n l) (drop n l))
 
 offered-few : (c : Call) (r : CallResult Answer) → length (offered_by c r) ≤ frames_in c
-offered-few (append_call lent f) (refused why) = omega arith
-offered-few (append_call lent f) (done a) = omega arith
+offered-few (append_call lent f) (Err why) = omega arith
+offered-few (append_call lent f) (Ok a) = omega arith
 offered-few (remove_call lent start end) r = omega arith
 offered-few abort_call r = omega arith
 offered-few (mode_call m) r = omega arith

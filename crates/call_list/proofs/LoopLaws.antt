@@ -23,7 +23,6 @@ use Rattle.buffer_laws.proofs.GoodLaws.{good-facts, facts-good}
 use Rattle.buffer_laws.proofs.LentLaws.{laid-well_formed, held_back}
 use Rattle.buffer_laws.proofs.CallLaws.{total-append}
 use Rattle.buffer_laws.proofs.RunLaws.{run-lawful}
-use Rattle.call_list.specs.declared.Ending.TheVariants.{Done}
 use Rattle.call_rows.specs.declared.Step.{Step}
 use Rattle.call_rows.specs.Encoded.{of_lines, of_ranges, row_call}
 use Rattle.call_rows.specs.Replies.{lent, Replied, laid_reply, reply_on, step_of, size_of, ranges_in, written_at, CalledAt}
@@ -259,12 +258,11 @@ module _ (rows : List (List ℕ)) (stamps : List (List ℤ)) (seconds : List (Li
             }
 
   pub ended : (after : Lists) (k : Head) (at placed read i : ℕ) → Sofar after k at placed read i → length rows ≤ i
-      → Replayed b₀ (encoded_calls rows stamps seconds frames) (record { ending = Done; lines = at; ranges = placed; readings = read; head = k }) before after
+      → Replayed b₀ (encoded_calls rows stamps seconds frames) (record { lines = at; ranges = placed; readings = read; head = k }) before after
   ended after k at placed read i S h =
       let n : i ≡ length rows = omega (arith, S.inside) in
       let all : Sofar after k at placed read (length rows) = subst (Sofar after k at placed read) n S in
       record {
-        ending = refl;
         state = all.state;
         answers = refilled refl (sym (calls-length (length rows))) all.answers;
         lines = refilled (ap written (lines-out (run b₀ (encoded_calls rows stamps seconds frames)))) refl all.lines;

@@ -1,5 +1,6 @@
 -- What a row's kind says of its result: lines, ranges or a reading, and never more ranges than places lent; and how many frames its call
 -- offers.
+use Rattle.std.specs.Prelude.{Ok, Err}
 use mathlib.Core.Path.{◌≡◌, refl}
 use mathlib.Core.Bool.{not}
 use mathlib.Core.List.{List, [], ◌∷◌, map}
@@ -15,10 +16,11 @@ use Rattle.buffer_state.specs.Append.{Outcome, append}
 use Rattle.buffer_state.specs.Batch.{Batch, offered_in, batch}
 use Rattle.buffer_state.specs.Buffer.{Buffer, has_track}
 use Rattle.buffer_state.specs.Ranges.{Range, ranges_of, common_ranges_of, track_ranges, common_ranges}
-use Rattle.buffer_state.specs.Refusals.{CallResult, refused, done}
+use Rattle.buffer_state.specs.Refusals.{CallResult}
 use Rattle.buffer_state.specs.Remove.{remove}
 use Rattle.buffer_state.specs.Run.{Call, read_call, batch_call, walked_call, seek_call, Answer, by_outcome, by_setting, by_ranges, by_batch, by_walked, by_seek, reply_to, lines_in}
-use Rattle.buffer_state.specs.Seek.{Start, seek}
+use Rattle.buffer_state.specs.declared.Start.{Start}
+use Rattle.buffer_state.specs.Seek.{seek}
 use Rattle.buffer_state.specs.Settings.{abort, offset_set, window_start_set, window_end_set}
 use Rattle.buffer_state.specs.Walked.{walked}
 use Rattle.call_rows.specs.Encoded.{offered_of, lines_call, setting_call, ranges_call_of, of_lines, of_ranges, row_call}
@@ -34,20 +36,20 @@ pub record Shape (kind places : ℕ) (r : CallResult Answer) : Type 0 where
 
 module _ (kind places : ℕ) (b : Buffer) where
   outcome-shape : kind < 2 → (x : CallResult Outcome) → Shape kind places (by_outcome b x).result
-  outcome-shape h (refused why) =
+  outcome-shape h (Err why) =
       record { lines = rw (lt-ltb kind 2 h); ranges = rw (lt-ltb kind 8 (omega arith)); few = omega arith; readings = rw (ne_eqb kind 7 (λ e. omega arith)) }
-  outcome-shape h (done o) =
+  outcome-shape h (Ok o) =
       record { lines = rw (lt-ltb kind 2 h); ranges = rw (lt-ltb kind 8 (omega arith)); few = omega arith; readings = rw (ne_eqb kind 7 (λ e. omega arith)) }
 
   setting-shape : 2 ≤ kind → kind < 7 → (x : CallResult Buffer) → Shape kind places (by_setting b x).result
-  setting-shape h k (refused why) =
+  setting-shape h k (Err why) =
       record { lines = rw (le-ltb kind 2 h, ne_eqb kind 10 (λ e. omega arith)); ranges = rw (lt-ltb kind 8 (omega arith)); few = omega arith; readings = rw (ne_eqb kind 7 (λ e. omega arith)) }
-  setting-shape h k (done c) =
+  setting-shape h k (Ok c) =
       record { lines = rw (le-ltb kind 2 h, ne_eqb kind 10 (λ e. omega arith)); ranges = rw (lt-ltb kind 8 (omega arith)); few = omega arith; readings = rw (ne_eqb kind 7 (λ e. omega arith)) }
 
   batch-shape : kind ≡ 10 → (x : CallResult Batch) → Shape kind places (by_batch b x).result
-  batch-shape e (refused why) = rw e (record { lines = refl; ranges = refl; few = omega arith; readings = refl })
-  batch-shape e (done r) = rw e (record { lines = refl; ranges = refl; few = omega arith; readings = refl })
+  batch-shape e (Err why) = rw e (record { lines = refl; ranges = refl; few = omega arith; readings = refl })
+  batch-shape e (Ok r) = rw e (record { lines = refl; ranges = refl; few = omega arith; readings = refl })
 
   -- a walk and a seek, whose answers have no list
   module _ (h : 10 < kind) where
@@ -60,18 +62,18 @@ module _ (kind places : ℕ) (b : Buffer) where
     }
 
     walk-shape : (x : CallResult ℕ) → Shape kind places (by_walked b x).result
-    walk-shape (refused why) = listless (refused why) refl refl refl
-    walk-shape (done n) = listless (by_walked b (done n)).result refl refl refl
+    walk-shape (Err why) = listless (Err why) refl refl refl
+    walk-shape (Ok n) = listless (by_walked b (Ok n)).result refl refl refl
 
     seek-shape : (x : CallResult Start) → Shape kind places (by_seek b x).result
-    seek-shape (refused why) = listless (refused why) refl refl refl
-    seek-shape (done s) = listless (by_seek b (done s)).result refl refl refl
+    seek-shape (Err why) = listless (Err why) refl refl refl
+    seek-shape (Ok s) = listless (by_seek b (Ok s)).result refl refl refl
 
   module _ (h : 8 ≤ kind) (k : kind < 10) where
     ranges-shape : (x : CallResult (List Range)) → length (ranges_in (by_ranges b x).result) ≤ places → Shape kind places (by_ranges b x).result
-    ranges-shape (refused why) f =
+    ranges-shape (Err why) f =
         record { lines = rw (le-ltb kind 2 (omega arith), ne_eqb kind 10 (λ e. omega arith)); ranges = rw (le-ltb kind 8 h, lt-ltb kind 10 k); few = omega arith; readings = rw (ne_eqb kind 7 (λ e. omega arith)) }
-    ranges-shape (done rs) f =
+    ranges-shape (Ok rs) f =
         record { lines = rw (le-ltb kind 2 (omega arith), ne_eqb kind 10 (λ e. omega arith)); ranges = rw (le-ltb kind 8 h, lt-ltb kind 10 k); few = rw (le-ltb kind 8 h, lt-ltb kind 10 k) f; readings = rw (ne_eqb kind 7 (λ e. omega arith)) }
 
     abbrev IsFew : CallResult (List Range) → Type 0
@@ -110,7 +112,7 @@ module _ (row : List ℕ) (stamps : List ℤ) (seconds : List Float) (frames : L
   settings-shape h k =
       let x = get_or seconds 0 nan in
       by-test IsShaped (eqb kind 2) (λ _. setting-shape kind places b h k (abort b))
-      (λ _. by-test IsShaped (eqb kind 3) (λ _. setting-shape kind places b h k (done b))
+      (λ _. by-test IsShaped (eqb kind 3) (λ _. setting-shape kind places b h k (Ok b))
       (λ _. by-test IsShaped (eqb kind 4) (λ _. setting-shape kind places b h k (offset_set x b))
       (λ _. by-test IsShaped (eqb kind 5) (λ _. setting-shape kind places b h k (window_start_set x b))
       (λ _. setting-shape kind places b h k (window_end_set x b)))))

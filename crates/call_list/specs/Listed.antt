@@ -1,16 +1,16 @@
 -- The run of a list of calls as numbers: the calls so encoded, what the lists hold after it, and when there is no run.
-use Rattle.std.specs.Prelude.{◌≡◌, Bool, true, cond, ◌&&◌, List, [], ◌∷◌, ◌++◌, map, ℕ, zero, suc, ◌+◌, ◌-◌, leb, eqb, ℤ, Float, length, take, drop, get_or}
-use Rattle.buffer_state.specs.Answers.{written, laid_ranges, zero_head}
+use Rattle.std.specs.Prelude.{◌≡◌, Bool, true, cond, ◌&&◌, List, [], ◌∷◌, ◌++◌, map, ℕ, zero, suc, ◌+◌, ◌-◌, leb, eqb, ℤ, Float, length, take, drop, get_or, Option, None, Some, Result, Ok, Err}
+use Rattle.buffer_state.specs.Answers.{written, laid_ranges}
 use Rattle.buffer_state.specs.Buffer.{Buffer, fresh}
 use Rattle.buffer_state.specs.Lent.{Lent, lent_of, buffer_in}
-use Rattle.buffer_state.specs.Refusals.{CallResult, refused, done}
+use Rattle.buffer_state.specs.Refusals.{CallResult}
 use Rattle.buffer_state.specs.Run.{Call, Answer, ok, fates, settings, ranges, accepted, taken, decoding, Entry, run, last_of, handed_out, accepted_in, total}
 use Rattle.buffer_state.specs.Settings.{create}
 use Rattle.buffer_state.specs.WellFormed.{good_buffer}
 use Rattle.account.specs.Account.{IsAccount}
-use Rattle.call_list.specs.declared.Ending as End
-use Rattle.call_list.specs.declared.Ending.TheVariants.{Done, Unfit, Refused}
 use Rattle.call_list.specs.declared.Ran.{Ran}
+use Rattle.call_list.specs.declared.Unrun.{Unrun}
+use Rattle.call_list.specs.declared.Unrun.TheVariants.{Unfit, Refused}
 use Rattle.call_rows.specs.Encoded.{of_lines, of_ranges, row_call}
 use Rattle.call_rows.specs.Replies.{lent, number_of, size_of, stop_in, target_in, flagged_in, doubles_in, ranges_in}
 
@@ -52,14 +52,14 @@ answer_of e =
 
 -- the doubles of a reading: offset, window start, window end
 abbrev pub readings_in : CallResult Answer → List (List Float)
-readings_in (refused why) = []
-readings_in (done ok) = []
-readings_in (done (fates ls)) = []
-readings_in (done (settings r)) = doubles_in (done (settings r)) ∷ []
-readings_in (done (ranges rs)) = []
-readings_in (done (accepted n stop ls)) = []
-readings_in (done (taken n)) = []
-readings_in (done (decoding s)) = []
+readings_in (Err why) = []
+readings_in (Ok ok) = []
+readings_in (Ok (fates ls)) = []
+readings_in (Ok (settings r)) = doubles_in (Ok (settings r)) ∷ []
+readings_in (Ok (ranges rs)) = []
+readings_in (Ok (accepted n stop ls)) = []
+readings_in (Ok (taken n)) = []
+readings_in (Ok (decoding s)) = []
 
 -- what all results have of one sort, in order
 unfoldable pub all_out : {A : Type 0} → (CallResult Answer → List A) → List Entry → List A
@@ -95,7 +95,6 @@ over l r = lent r.head l.times l.tags
 
 -- the lists and the last state after calls on a buffer
 pub record Replayed (b : Buffer) (cs : List Call) (r : Ran) (before after : Lists) : Type 0 where
-  pub ending : r.ending ≡ Done
   pub state : over after r ≡ lent_of (last_of b cs)
   pub answers : Filled (map answer_of (run b cs)) before.answers after.answers (length cs)
   pub lines : Filled (written (handed_out (run b cs))) before.lines after.lines r.lines
@@ -136,31 +135,23 @@ abbrev pub fits_in : List (List ℕ) → List (List ℤ) → List (List Float) �
 fits_in rows stamps seconds frames l =
     fits rows (length stamps) (length seconds) (length frames) (length l.answers) (length l.lines) (length l.ranges) (length l.readings)
 
-abbrev pub ending_of : CallResult Buffer → End.Ending
-ending_of (refused why) = Refused why
-ending_of (done b) = Done
+abbrev pub unmade : CallResult Buffer → Option Unrun
+unmade (Err why) = Some (Refused why)
+unmade (Ok b) = None
 
--- Unfit first, then the refusal of the creation.
-unfoldable pub ending_for : List ℕ → Bool → End.Ending
-ending_for kinds fit = cond fit (ending_of (create kinds)) Unfit
-
--- where there is no run: nothing is written, and no head is given
-abbrev pub no_run : End.Ending → Ran
-no_run e = record { ending = e; lines = 0; ranges = 0; readings = 0; head = zero_head }
-
-pub record NoRun (e : End.Ending) (r : Ran) (before after : Lists) : Type 0 where
-  pub ran : r ≡ no_run e
-  pub kept : after ≡ before
+-- why there is no run, where there is none: unfit first, then the refusal of the creation
+unfoldable pub unrun_for : List ℕ → Bool → Option Unrun
+unrun_for kinds fit = cond fit (unmade (create kinds)) (Some Unfit)
 
 -- THE CLAIM of a run: it is the plain run over the calls so encoded, and it accounts for every number.
 pub record Claimed (kinds : List ℕ) (cs : List Call) (r : Ran) (before after : Lists) : Type 0 where
   pub replayed : Replayed (fresh kinds) cs r before after
   pub account : IsAccount (run (fresh kinds) cs) (over after r)
 
-abbrev pub Ends : End.Ending → List ℕ → List Call → Ran → Lists → Lists → Type 0
-Ends Done kinds cs = Claimed kinds cs
-Ends Unfit kinds cs = NoRun Unfit
-Ends (Refused why) kinds cs = NoRun (Refused why)
+-- where there is no run, nothing is written
+abbrev pub Ends : Result Ran Unrun → List ℕ → List Call → Lists → Lists → Type 0
+Ends (Ok r) kinds cs before after = Claimed kinds cs r before after
+Ends (Err why) kinds cs before after = after ≡ before
 
 -- ---- the loop's premise
 

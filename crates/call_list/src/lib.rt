@@ -1,28 +1,36 @@
 // A list of calls, rows of numbers, run through the public functions on a fresh buffer in two lent arrays.
 #![tactic(auto)]
 
-ghost use Rattle.std.specs.Prelude.{◌≡◌, true, ◌+◌, ◌-◌, ◌≤◌, ◌<◌, leb, length, get_or};
+ghost use Rattle.std.specs.Prelude.{◌≡◌, true, ◌+◌, ◌≤◌, ◌<◌, leb, length, get_or};
+ghost use Rattle.std.specs.Result.{result_err};
 ghost use Rattle.buffer_state.specs.Lent.{buffer_in};
 ghost use Rattle.buffer_state.specs.Run.{total};
 ghost use Rattle.call_rows.specs.Encoded.{of_lines, of_ranges, row_call};
 ghost use Rattle.call_rows.specs.Replies.{lent, reply_on, written_at, CalledAt};
-ghost use Rattle.call_list.specs.Listed.{of_batch, first_frame, frame_count, frames_of_row, noted, lists_of, long_enough, row_fits, offers_of_row, rows_fit, ranges_of_row, fits, fits_in, ending_for, no_run, Ends, encoded_calls, IsBegun, Replayed};
+ghost use Rattle.call_list.specs.declared.Unrun.TheVariants.{Refused};
+ghost use Rattle.call_list.specs.Listed.{of_batch, first_frame, frame_count, frames_of_row, noted, lists_of, long_enough, row_fits, offers_of_row, rows_fit, ranges_of_row, fits, fits_in, unrun_for, Ends, encoded_calls, IsBegun, Replayed};
 
-use buffer_state::{Answer, Head, Refusal, Tags, Times};
-use call_rows::{ABORT, APPEND, BATCH, READ, SEEK, Step, TRACK_RANGES, WALKED, wide};
+use buffer_state::{Head, Refusal, Tags, Times};
+use call_rows::{ABORT, APPEND, BATCH, READ, SEEK, Step, TRACK_RANGES, WALKED};
 
-// How a run ends: it was run; a list is too short, a call is of no kind or names frames that are not there; the creation was refused.
+// Why there is no run: a list is too short, a call is of no kind or names frames that are not there; or the creation was refused.
 #[derive(Clone, Copy)]
-pub enum Ending {
-    Done,
+pub enum Unrun {
     Unfit,
     Refused(Refusal),
 }
 
-// How many places of the lists of lines, ranges and readings were written, and the last head.
+impl From<Refusal> for Unrun {
+    ghost from_gives = { λ why e. e ≡ Refused why };
+
+    fn from(why: Refusal) -> Unrun {
+        Unrun::Refused(why)
+    }
+}
+
+// How many places of the lists of lines, ranges and readings a run wrote, and the last head.
 #[derive(Clone, Copy)]
 pub struct Ran {
-    pub ending: Ending,
     pub lines: usize,
     pub ranges: usize,
     pub readings: usize,
@@ -33,44 +41,36 @@ pub struct Ran {
 fn of_lines(kind: u32, n: usize) -> usize
     ensures { result ≡ of_lines kind n }
 {
-    if kind < ABORT {
-        return n;
-    }
-    of_batch(kind, n)
+    if kind < ABORT || kind == BATCH { n } else { 0 }
 }
 
 fn of_ranges(kind: u32, n: usize) -> usize
     ensures { result ≡ of_ranges kind n }
 {
-    if kind < TRACK_RANGES {
-        return 0;
+    if (TRACK_RANGES..BATCH).contains(&kind) {
+        n
+    } else {
+        0
     }
-    if kind < BATCH {
-        return n;
-    }
-    0
 }
 
 fn of_batch(kind: u32, n: usize) -> usize
     ensures { result ≡ of_batch kind n }
 {
-    if kind == BATCH {
-        return n;
-    }
-    0
+    if kind == BATCH { n } else { 0 }
 }
 
 // Where in the list of frames those of a row begin, and how many they are.
 fn first_frame(row: [u32; 5]) -> usize
     ensures { result ≡ first_frame row }
 {
-    of_batch(row[0], wide(row[1]))
+    of_batch(row[0], row[1] as usize)
 }
 
 fn frame_count(row: [u32; 5]) -> usize
     ensures { result ≡ frame_count row }
 {
-    of_batch(row[0], wide(row[3]))
+    of_batch(row[0], row[3] as usize)
 }
 
 // One call of the list, lent the places from `at` and from `placed` on. A walk writes none, and is told how many its row names.
@@ -91,7 +91,7 @@ fn call_at(
     ensures { CalledAt (reply_on (row_call row stamps seconds (frames_of_row row frames.now)) (lent h times.old tags.old)) result times.new tags.new lines.old at lines.new list.old placed list.new }
 {
     let kind = row[0];
-    let places = wide(row[4]);
+    let places = row[4] as usize;
     if kind == WALKED {
         return call_rows::walked_step(h, row[1], times, tags, places);
     }
@@ -145,29 +145,20 @@ fn run_from(
         (lists_of answers.new lines.new list.new readings.new times.new tags.new) }
 {
     let mut h = start;
-    let mut at: usize = 0;
-    let mut placed: usize = 0;
-    let mut read: usize = 0;
-    let mut i: usize = 0;
-    while i < calls.len() {
-        let row = calls[i];
-        let stamp = stamps[i];
-        let second = seconds[i];
-        let kind = row[0];
+    let mut at = 0;
+    let mut placed = 0;
+    let mut read = 0;
+    for (i, row) in calls.iter().enumerate() {
         let t = call_at(
-            h, row, stamp, second, frames, times, tags, lines, at, list, placed,
+            h, *row, stamps[i], seconds[i], frames, times, tags, lines, at, list, placed,
         );
-        let count = t.count;
-        answers[i] = [t.refusal, count, t.accepted, t.stop, t.target, t.flagged];
-        let doubles = t.doubles;
-        read = note_reading(kind, doubles, readings, read);
-        at += of_lines(kind, count);
-        placed += of_ranges(kind, count);
+        answers[i] = [t.refusal, t.count, t.accepted, t.stop, t.target, t.flagged];
+        read = note_reading(row[0], t.doubles, readings, read);
+        at += of_lines(row[0], t.count);
+        placed += of_ranges(row[0], t.count);
         h = t.head;
-        i += 1;
     }
     Ran {
-        ending: Ending::Done,
         lines: at,
         ranges: placed,
         readings: read,
@@ -180,58 +171,43 @@ fn run_from(
 fn long_enough(n: usize, stamps: usize, seconds: usize, answers: usize, readings: usize) -> bool
     ensures { result ≡ long_enough n stamps seconds answers readings }
 {
-    (n <= stamps) & ((n <= seconds) & ((n <= answers) & (n <= readings)))
+    n <= stamps && n <= seconds && n <= answers && n <= readings
 }
 
 // Whether so many from `first` on are inside a list of length `len`; no sum, which might overflow.
 fn inside(first: usize, count: usize, len: usize) -> bool
     ensures { result ≡ leb (first + count) len }
 {
-    if len < first {
-        return false;
-    }
-    count <= len - first
+    first <= len && count <= len - first
 }
 
 fn row_fits(row: [u32; 5], frames: usize, room: usize) -> bool
     ensures { result ≡ row_fits frames room row }
 {
-    let kind = row[0];
-    let asked = of_lines(kind, wide(row[4]));
-    (kind <= SEEK) & ((asked <= room) & inside(first_frame(row), frame_count(row), frames))
+    let asked = of_lines(row[0], row[4] as usize);
+    row[0] <= SEEK && asked <= room && inside(first_frame(row), frame_count(row), frames)
 }
 
 fn offers_of_row(row: [u32; 5]) -> usize
     ensures { result ≡ offers_of_row row }
 {
     if row[0] == APPEND {
-        return 1;
+        1
+    } else {
+        frame_count(row)
     }
-    frame_count(row)
 }
 
-// What is left of a room, nothing where more is taken than there is.
-fn less(room: usize, taken: usize) -> usize
-    ensures { result ≡ room - taken }
-{
-    if room < taken {
-        return 0;
-    }
-    room - taken
-}
-
+#[tactic(auto, using(crate::proofs::ClaimLaws::rows_stop, crate::proofs::ClaimLaws::rows_step, crate::proofs::ClaimLaws::rows_end))]
 fn rows_fit(calls: &[[u32; 5]], frames: usize, lines: usize) -> bool
     ensures { result ≡ rows_fit frames lines calls.now }
 {
     let mut room = lines;
-    let mut i: usize = 0;
-    while i < calls.len() {
-        let row = calls[i];
-        if !row_fits(row, frames, room) {
+    for row in calls {
+        if !row_fits(*row, frames, room) {
             return false;
         }
-        room = less(room, offers_of_row(row));
-        i += 1;
+        room = room.saturating_sub(offers_of_row(*row));
     }
     true
 }
@@ -239,7 +215,7 @@ fn rows_fit(calls: &[[u32; 5]], frames: usize, lines: usize) -> bool
 fn ranges_of_row(row: [u32; 5]) -> usize
     ensures { result ≡ ranges_of_row row }
 {
-    of_ranges(row[0], wide(row[4]))
+    of_ranges(row[0], row[4] as usize)
 }
 
 // Taken from the room, row by row, so that no sum can overflow.
@@ -247,18 +223,17 @@ fn ranges_fit(calls: &[[u32; 5]], room: usize) -> bool
     ensures { result ≡ leb (total ranges_of_row calls.now) room }
 {
     let mut left = room;
-    let mut i: usize = 0;
-    while i < calls.len() {
-        let asked = ranges_of_row(calls[i]);
+    for row in calls {
+        let asked = ranges_of_row(*row);
         if left < asked {
             return false;
         }
         left -= asked;
-        i += 1;
     }
     true
 }
 
+#[tactic(auto, unfolding(crate::specs::Listed::fits))]
 fn fit(
     calls: &[[u32; 5]],
     stamps: usize,
@@ -271,34 +246,16 @@ fn fit(
 ) -> bool
     ensures { result ≡ fits calls.now stamps seconds frames answers lines ranges readings }
 {
-    if !long_enough(calls.len(), stamps, seconds, answers, readings) {
-        return false;
-    }
-    if !rows_fit(calls, frames, lines) {
-        return false;
-    }
-    ranges_fit(calls, ranges)
+    long_enough(calls.len(), stamps, seconds, answers, readings)
+        && rows_fit(calls, frames, lines)
+        && ranges_fit(calls, ranges)
 }
 
 // ---- the run
 
-fn no_run(ending: Ending) -> Ran
-    ensures { result ≡ no_run ending }
-{
-    let c = settings::no_head();
-    let head = c.head;
-    Ran {
-        ending,
-        lines: 0,
-        ranges: 0,
-        readings: 0,
-        head,
-    }
-}
-
 // Create a buffer in the arrays and make every call of the list on it, each handed the head last given. Row i of `calls`, with row i of
 // `stamps` and of `seconds`, is a call; a batch's row names its frames in `frames`. Its answer goes to row i of `answers`; lines, ranges
-// and readings follow each other in their lists.
+// and readings follow each other in their lists. Where there is no run, nothing is written.
 pub fn run(
     kinds: &[u8],
     calls: &[[u32; 5]],
@@ -311,10 +268,10 @@ pub fn run(
     readings: &mut [[f64; 3]],
     times: &mut Times,
     tags: &mut Tags,
-) -> Ran
-    ensures ending { result.ending ≡ ending_for kinds.now (fits_in calls.now stamps.now seconds.now frames.now
+) -> Result<Ran, Unrun>
+    ensures ending { result_err result ≡ unrun_for kinds.now (fits_in calls.now stamps.now seconds.now frames.now
         (lists_of answers.old lines.old list.old readings.old times.old tags.old)) }
-    ensures claim { Ends result.ending kinds.now (encoded_calls calls.now stamps.now seconds.now frames.now) result
+    ensures claim { Ends result kinds.now (encoded_calls calls.now stamps.now seconds.now frames.now)
         (lists_of answers.old lines.old list.old readings.old times.old tags.old)
         (lists_of answers.new lines.new list.new readings.new times.new tags.new) }
 {
@@ -328,15 +285,10 @@ pub fn run(
         list.len(),
         readings.len(),
     ) {
-        return no_run(Ending::Unfit);
+        return Err(Unrun::Unfit);
     }
-    let c = settings::create(kinds, times, tags);
-    let answer = c.answer;
-    let h = c.head;
-    match answer {
-        Answer::Done => run_from(
-            h, calls, stamps, seconds, frames, answers, lines, list, readings, times, tags,
-        ),
-        Answer::Refused(why) => no_run(Ending::Refused(why)),
-    }
+    let h = settings::create(kinds, times, tags)?;
+    Ok(run_from(
+        h, calls, stamps, seconds, frames, answers, lines, list, readings, times, tags,
+    ))
 }

@@ -1,4 +1,5 @@
 -- What the contracts of the calls say of any head and arrays, in the run's words and as numbers.
+use Rattle.std.specs.Prelude.{Ok, Err, MatchResult, IsOkAnd}
 use mathlib.Core.Path.{◌≡◌, refl, sym, ap, ◌∙◌}
 use mathlib.Core.Bool.{Bool, true, false}
 use mathlib.Core.List.{List, [], ◌∷◌, map}
@@ -9,38 +10,32 @@ use lib.Ieee.{Float, nan}
 use lib.ListN.{length, get_or}
 use borrow.Author.Tests.{lt-ltb, le-ltb, eq-eqb, ne_eqb}
 use Rattle.laws.proofs.BoolLaws.{by-test}
-use Rattle.seconds.specs.Seconds.{zero_seconds}
-use Rattle.buffer_state.specs.declared.Batched.{Batched}
-use Rattle.buffer_state.specs.declared.Changed.{Changed}
-use Rattle.buffer_state.specs.declared.Count.{Count}
-use Rattle.buffer_state.specs.declared.Counted.{Counted}
+use Rattle.buffer_state.specs.declared.Accepted.{Accepted}
 use Rattle.buffer_state.specs.declared.Head.{Head}
 use Rattle.buffer_state.specs.declared.Mode.{Mode}
 use Rattle.buffer_state.specs.declared.Offered.{Offered}
-use Rattle.buffer_state.specs.declared.Read.{Read}
 use Rattle.buffer_state.specs.declared.Refusal.TheVariants.{IllFormed}
-use Rattle.buffer_state.specs.declared.Sought.{Sought}
-use Rattle.buffer_state.specs.declared.WindowEnd.{WindowEnd}
-use Rattle.buffer_state.specs.declared.WindowEnd.TheVariants.{Unbounded, At}
-use Rattle.buffer_state.specs.Answers.{changed, abort_answer, mode_answer, offset_answer, window_start_answer, window_end_answer, read_with, read, settings_answer, counted, times_after, tags_after, list_after, append_result, remove_result, batched, outcome_of, batch_result, range_count, ranges_after, track_ranges_result, common_ranges_result, taken_count, walked_result, sought, seek_result}
+use Rattle.buffer_state.specs.Answers.{set_answer, head_set, abort_result, mode_result, offset_result, window_start_result, window_end_result, settings_result, line_count, head_after, times_after, tags_after, list_after, append_result, remove_result, batch_answer, outcome_of, batch_result, range_count, ranges_after, track_ranges_result, common_ranges_result, walked_result, seek_result}
 use Rattle.buffer_state.specs.Append.{Outcome, append}
 use Rattle.buffer_state.specs.Batch.{offered_in, Batch, batch}
 use Rattle.buffer_state.specs.Buffer.{Buffer, with_frames}
 use Rattle.buffer_state.specs.Lent.{Lent, times_in, tags_in, lent_of, buffer_in, well_formed_at, on_lent}
 use Rattle.buffer_state.specs.Ranges.{Range, track_ranges, common_ranges}
-use Rattle.buffer_state.specs.Refusals.{CallResult, refused, done, refusal_number}
+use Rattle.buffer_state.specs.Refusals.{CallResult, refusal_number}
 use Rattle.buffer_state.specs.Remove.{remove}
 use Rattle.buffer_state.specs.Run.{Call, append_call, remove_call, abort_call, mode_call, offset_call, window_start_call, window_end_call, read_call, ranges_call, common_call, batch_call, walked_call, seek_call, settings, by_outcome, by_setting, by_ranges, by_batch, by_walked, by_seek, reply_to}
-use Rattle.buffer_state.specs.Seek.{Start, seek}
-use Rattle.buffer_state.specs.Settings.{abort, mode_set, offset_set, window_start_set, window_end_set, Reading, reading}
+use Rattle.buffer_state.specs.declared.Start.{Start}
+use Rattle.buffer_state.specs.Seek.{seek}
+use Rattle.buffer_state.specs.declared.Reading.{Reading}
+use Rattle.buffer_state.specs.Settings.{abort, mode_set, offset_set, window_start_set, window_end_set, reading}
 use Rattle.buffer_state.specs.Walked.{walked}
 use Rattle.buffer_laws.proofs.AnswerLaws.{Leaves, LeavesBatch}
 use Rattle.buffer_laws.proofs.LentLaws.{lent_same, ill-formed-refused, on-well_formed}
 use Rattle.buffer_laws.proofs.SettingLaws.{IfDone, Set, abort-set, mode-good, mode-untouched, offset_set_lem, window_start_set_lem, window_end_set_lem}
-use Rattle.ranges.specs.Bars.{Reported}
 use Rattle.call_rows.specs.declared.Step.{Step}
 use Rattle.call_rows.specs.Encoded.{mode_of, offered_of, lines_call, setting_call, ranges_call_of, call_of}
-use Rattle.call_rows.specs.Replies.{Replied, laid_reply, reply_on, Stepped, Lined, Spanned, IsQuiet, step_with, plain_step, change_step, count_step, read_step, accepted_step, sought_step}
+use Rattle.call_rows.specs.declared.Given.{Given}
+use Rattle.call_rows.specs.Replies.{Replied, laid_reply, reply_on, Stepped, Lined, Spanned, IsQuiet, given, counted, done, plain_step, step_in}
 
 -- the test, and a call, on a state between calls
 abbrev formed : Lent → Bool
@@ -51,7 +46,7 @@ on call s = on_lent call s.head s.times s.tags
 
 -- by cases of whether the state is well-formed
 on-reply : (P : Replied → Type 0) (c : Call) (s : Lent)
-    → (formed s ≡ true → P (laid_reply (reply_to c (buffer_in s)))) → (formed s ≡ false → P (record { result = refused IllFormed; after = s }))
+    → (formed s ≡ true → P (laid_reply (reply_to c (buffer_in s)))) → (formed s ≡ false → P (record { result = Err IllFormed; after = s }))
     → P (reply_on c s)
 unfolding reply_on
 on-reply P c s = by-test P (formed s)
@@ -71,11 +66,11 @@ module _ (s : Lent) (w : formed s ≡ true) where
 
 module _ (s : Lent) (lent : List (List ℕ)) where
   abbrev LinedBy : CallResult Outcome → Replied → Type 0
-  LinedBy x r = Lined r (count_step (counted s.head x).answer (counted s.head x).head) (times_after x s.times) (tags_after x s.tags) lent (list_after x lent)
+  LinedBy x r = Lined r (step_in (counted (line_count x)) (head_after x s.head)) (times_after x s.times) (tags_after x s.tags) lent (list_after x lent)
 
   lined-of : formed s ≡ true → (x : CallResult Outcome) → LinedBy x (laid_reply (by_outcome (buffer_in s) x))
-  lined-of w (refused why) rs = record { step = ap (plain_step (refusal_number why) 0) (left-head s w); times = left-times s w; tags = left-tags s w; fates = refl; ranges = refl }
-  lined-of w (done o) rs = record { step = refl; times = refl; tags = refl; fates = refl; ranges = refl }
+  lined-of w (Err why) rs = record { step = ap (plain_step (refusal_number why) 0) (left-head s w); times = left-times s w; tags = left-tags s w; fates = refl; ranges = refl }
+  lined-of w (Ok o) rs = record { step = refl; times = refl; tags = refl; fates = refl; ranges = refl }
 
   lined-reply : (c : Call) (call : Buffer → CallResult Outcome) → ((b : Buffer) → reply_to c b ≡ by_outcome b (call b)) → LinedBy (on call s) (reply_on c s)
   lined-reply c call e =
@@ -96,34 +91,29 @@ module _ (s : Lent) (lent : List (List ℕ)) where
 module _ (s : Lent) (lent : List (List ℕ)) where
   abbrev JoinedBy : CallResult Batch → Replied → Type 0
   JoinedBy x r =
-      Lined r (accepted_step (batched s.head x).answer (batched s.head x).head) (times_after (outcome_of x) s.times) (tags_after (outcome_of x) s.tags)
+      Lined r (step_in (given Given.Batch (batch_answer x)) (head_after (outcome_of x) s.head)) (times_after (outcome_of x) s.times) (tags_after (outcome_of x) s.tags)
       lent (list_after (outcome_of x) lent)
 
   joined_of : formed s ≡ true → (x : CallResult Batch) → JoinedBy x (laid_reply (by_batch (buffer_in s) x))
-  joined_of w (refused why) rs = record { step = ap (plain_step (refusal_number why) 0) (left-head s w); times = left-times s w; tags = left-tags s w; fates = refl; ranges = refl }
-  joined_of w (done r) rs = record { step = refl; times = refl; tags = refl; fates = refl; ranges = refl }
+  joined_of w (Err why) rs = record { step = ap (plain_step (refusal_number why) 0) (left-head s w); times = left-times s w; tags = left-tags s w; fates = refl; ranges = refl }
+  joined_of w (Ok r) rs = record { step = refl; times = refl; tags = refl; fates = refl; ranges = refl }
 
-  batch-reply : (n : ℕ) (fs : List Offered) → JoinedBy (batch_result n fs s.head s.times s.tags) (reply_on (batch_call n fs) s)
+  pub batch-reply : (n : ℕ) (fs : List Offered) → JoinedBy (batch_result n fs s.head s.times s.tags) (reply_on (batch_call n fs) s)
   unfolding batch_result reply_to
   batch-reply n fs =
       on-reply (JoinedBy (on (batch n fs) s)) (batch_call n fs) s
       (λ w. rw (on-well_formed (batch n fs) s.head s.times s.tags w) (joined_of w (batch n fs (buffer_in s))))
       (λ w. rw (ill-formed-refused (batch n fs) s.head s.times s.tags w) (λ rs. record { step = refl; times = refl; tags = refl; fates = refl; ranges = refl }))
 
-  pub batch-joined : (rows : List (List ℤ)) (r : Batched) (ts : List (List ℤ)) (gs after : List (List ℕ)) (t : Step) → t ≡ accepted_step r.answer r.head
-      → LeavesBatch s.head s.times s.tags lent (batch_result (length lent) (map offered_in rows) s.head s.times s.tags) r ts gs after
-      → Lined (reply_on (batch_call (length lent) (map offered_in rows)) s) t ts gs lent after
-  batch-joined rows r ts gs after t told h = rw (told, h.0, h.1.0, h.1.1.0, h.1.1.1) (batch-reply (length lent) (map offered_in rows))
-
 -- ---- the reports
 
 module _ (s : Lent) (lent : List (List ℤ)) where
   abbrev SpannedBy : CallResult (List Range) → Replied → Type 0
-  SpannedBy x r = Spanned r (count_step (range_count x) s.head) s.times s.tags lent (ranges_after x lent)
+  SpannedBy x r = Spanned r (step_in (counted (range_count x)) s.head) s.times s.tags lent (ranges_after x lent)
 
   spanned-of : formed s ≡ true → (x : CallResult (List Range)) → SpannedBy x (laid_reply (by_ranges (buffer_in s) x))
-  spanned-of w (refused why) ls = record { step = ap (plain_step (refusal_number why) 0) (left-head s w); times = left-times s w; tags = left-tags s w; fates = refl; ranges = refl }
-  spanned-of w (done spans) ls = record { step = ap (plain_step 0 (length spans)) (left-head s w); times = left-times s w; tags = left-tags s w; fates = refl; ranges = refl }
+  spanned-of w (Err why) ls = record { step = ap (plain_step (refusal_number why) 0) (left-head s w); times = left-times s w; tags = left-tags s w; fates = refl; ranges = refl }
+  spanned-of w (Ok spans) ls = record { step = ap (plain_step 0 (length spans)) (left-head s w); times = left-times s w; tags = left-tags s w; fates = refl; ranges = refl }
 
   spanned-reply : (c : Call) (call : Buffer → CallResult (List Range)) → ((b : Buffer) → reply_to c b ≡ by_ranges b (call b)) → SpannedBy (on call s) (reply_on c s)
   spanned-reply c call e =
@@ -147,51 +137,51 @@ module _ (s : Lent) {A : Type 0} (told : CallResult A → Head → Step) where
   QuietBy x r = IsQuiet r (told x s.head) s.times s.tags
 
   quiet-reply : (c : Call) (call : Buffer → CallResult A) → (formed s ≡ true → QuietBy (call (buffer_in s)) (laid_reply (reply_to c (buffer_in s))))
-      → told (refused IllFormed) s.head ≡ plain_step (refusal_number IllFormed) 0 s.head → QuietBy (on call s) (reply_on c s)
+      → told (Err IllFormed) s.head ≡ plain_step (refusal_number IllFormed) 0 s.head → QuietBy (on call s) (reply_on c s)
   quiet-reply c call held ill =
       on-reply (QuietBy (on call s)) c s
       (λ w. rw (on-well_formed call s.head s.times s.tags w) (held w))
       (λ w. rw (ill-formed-refused call s.head s.times s.tags w) (λ ls rs. record { step = ill; times = refl; tags = refl; fates = refl; ranges = refl }))
 
--- ---- a walk and a seek
-
 module _ (s : Lent) where
-  abbrev walk_step : CallResult ℕ → Head → Step
-  walk_step x h = count_step (taken_count x) h
+  -- ---- one that leaves the head: a walk, a seek, a reading
 
-  walked_of_lem : formed s ≡ true → (x : CallResult ℕ) → QuietBy s walk_step x (laid_reply (by_walked (buffer_in s) x))
-  walked_of_lem w (refused why) ls rs = record { step = ap (plain_step (refusal_number why) 0) (left-head s w); times = left-times s w; tags = left-tags s w; fates = refl; ranges = refl }
-  walked_of_lem w (done n) ls rs = record { step = ap (plain_step 0 n) (left-head s w); times = left-times s w; tags = left-tags s w; fates = refl; ranges = refl }
+  abbrev tell : {A : Type 0} → (A → Given) → CallResult A → Head → Step
+  tell case x h = step_in (given case x) h
 
-  pub walked-quiet : (room track : ℕ) (r : Count) (t : Step) → t ≡ count_step r s.head → r ≡ taken_count (walked_result room track s.head s.times s.tags)
-      → IsQuiet (reply_on (walked_call room track) s) t s.times s.tags
+  module _ (w : formed s ≡ true) where
+    walked-of : (x : CallResult ℕ) → QuietBy s (tell Given.Count) x (laid_reply (by_walked (buffer_in s) x))
+    walked-of (Err why) ls rs = record { step = ap (plain_step (refusal_number why) 0) (left-head s w); times = left-times s w; tags = left-tags s w; fates = refl; ranges = refl }
+    walked-of (Ok n) ls rs = record { step = ap (plain_step 0 n) (left-head s w); times = left-times s w; tags = left-tags s w; fates = refl; ranges = refl }
+
+    sought-of : (x : CallResult Start) → QuietBy s (tell Given.Decoding) x (laid_reply (by_seek (buffer_in s) x))
+    sought-of (Err why) ls rs = record { step = ap (plain_step (refusal_number why) 0) (left-head s w); times = left-times s w; tags = left-tags s w; fates = refl; ranges = refl }
+    sought-of (Ok x) ls rs = record { step = ap (tell Given.Decoding (Ok x)) (left-head s w); times = left-times s w; tags = left-tags s w; fates = refl; ranges = refl }
+
+    read-of : (r : Reading) → QuietBy s (tell Given.Settings) (Ok r) (laid_reply (record { result = Ok (settings r); after = buffer_in s }))
+    read-of r ls rs = record { step = ap (tell Given.Settings (Ok r)) (left-head s w); times = left-times s w; tags = left-tags s w; fates = refl; ranges = refl }
+
+  pub walk-reply : (room track : ℕ) → QuietBy s (tell Given.Count) (walked_result room track s.head s.times s.tags) (reply_on (walked_call room track) s)
   unfolding walked_result reply_to
-  walked-quiet room track r t told h =
-      rw (told, h) (quiet-reply s walk_step (walked_call room track) (walked room track) (λ w. walked_of_lem w (walked room track (buffer_in s))) refl)
+  walk-reply room track = quiet-reply s (tell Given.Count) (walked_call room track) (walked room track) (λ w. walked-of w (walked room track (buffer_in s))) refl
 
-  abbrev seek_step : CallResult Start → Head → Step
-  seek_step x h = sought_step (sought x) h
-
-  sought_of_lem : formed s ≡ true → (x : CallResult Start) → QuietBy s seek_step x (laid_reply (by_seek (buffer_in s) x))
-  sought_of_lem w (refused why) ls rs = record { step = ap (plain_step (refusal_number why) 0) (left-head s w); times = left-times s w; tags = left-tags s w; fates = refl; ranges = refl }
-  sought_of_lem w (done x) ls rs = record { step = ap (seek_step (done x)) (left-head s w); times = left-times s w; tags = left-tags s w; fates = refl; ranges = refl }
-
-  pub seek-quiet : (track : ℕ) (z : ℤ) (r : Sought) (t : Step) → t ≡ sought_step r s.head → r ≡ sought (seek_result track z s.head s.times s.tags)
-      → IsQuiet (reply_on (seek_call track z) s) t s.times s.tags
+  pub seek-reply : (track : ℕ) (t : ℤ) → QuietBy s (tell Given.Decoding) (seek_result track t s.head s.times s.tags) (reply_on (seek_call track t) s)
   unfolding seek_result reply_to
-  seek-quiet track z r t told h =
-      rw (told, h) (quiet-reply s seek_step (seek_call track z) (seek track z) (λ w. sought_of_lem w (seek track z (buffer_in s))) refl)
+  seek-reply track t = quiet-reply s (tell Given.Decoding) (seek_call track t) (seek track t) (λ w. sought-of w (seek track t (buffer_in s))) refl
 
--- ---- abort, the setters and a reading
+  pub read-reply : QuietBy s (tell Given.Settings) (settings_result s.head s.times s.tags) (reply_on read_call s)
+  unfolding settings_result reply_to
+  read-reply = quiet-reply s (tell Given.Settings) read_call (λ b. Ok (reading b)) (λ w. read-of w (reading (buffer_in s))) refl
 
-module _ (s : Lent) where
-  abbrev settle_step : CallResult Buffer → Head → Step
-  settle_step x h = change_step (changed h x).answer (changed h x).head
+  -- ---- abort and the setters
+
+  abbrev settle : CallResult Buffer → Head → Step
+  settle x h = step_in (done (set_answer x)) (head_set x h)
 
   -- they touch no frame
-  changed-of : formed s ≡ true → (x : CallResult Buffer) → IfDone (Set (buffer_in s)) x → QuietBy s settle_step x (laid_reply (by_setting (buffer_in s) x))
-  changed-of w (refused why) k ls rs = record { step = ap (plain_step (refusal_number why) 0) (left-head s w); times = left-times s w; tags = left-tags s w; fates = refl; ranges = refl }
-  changed-of w (done b) k ls rs =
+  settled-of : formed s ≡ true → (x : CallResult Buffer) → IfDone (Set (buffer_in s)) x → QuietBy s settle x (laid_reply (by_setting (buffer_in s) x))
+  settled-of w (Err why) k ls rs = record { step = ap (plain_step (refusal_number why) 0) (left-head s w); times = left-times s w; tags = left-tags s w; fates = refl; ranges = refl }
+  settled-of w (Ok b) k ls rs =
       let e = sym k.untouched.frames in
       record {
         step = refl;
@@ -201,81 +191,72 @@ module _ (s : Lent) where
         ranges = refl;
       }
 
-  changed-reply : (c : Call) (call : Buffer → CallResult Buffer) → ((b : Buffer) → reply_to c b ≡ by_setting b (call b)) → ((b : Buffer) → IfDone (Set b) (call b))
-      → QuietBy s settle_step (on call s) (reply_on c s)
-  changed-reply c call e k = quiet-reply s settle_step c call (λ w. rw (e (buffer_in s)) (changed-of w (call (buffer_in s)) (k (buffer_in s)))) refl
-
-  read_of : formed s ≡ true → (offset start : Float) (e : WindowEnd)
-      → IsQuiet (laid_reply (record { result = done (settings (record { offset = offset; start = start; end = e })); after = buffer_in s })) (read_step (read_with offset start e) s.head) s.times s.tags
-  read_of w offset start Unbounded ls rs =
-      record { step = ap (step_with 0 2 (offset ∷ start ∷ zero_seconds ∷ [])) (left-head s w); times = left-times s w; tags = left-tags s w; fates = refl; ranges = refl }
-  read_of w offset start (At x) ls rs =
-      record { step = ap (step_with 0 3 (offset ∷ start ∷ x ∷ [])) (left-head s w); times = left-times s w; tags = left-tags s w; fates = refl; ranges = refl }
-
-  pub read-reply : IsQuiet (reply_on read_call s) (read_step (settings_answer s.head s.times s.tags) s.head) s.times s.tags
-  unfolding settings_answer reply_to
-  read-reply =
-      let told : CallResult Reading → Head → Step = λ x h. read_step (read x) h in
-      quiet-reply s told read_call (λ b. done (reading b)) (λ w. read_of w _ _ s.head.settings.end) refl
+  settled-reply : (c : Call) (call : Buffer → CallResult Buffer) → ((b : Buffer) → reply_to c b ≡ by_setting b (call b)) → ((b : Buffer) → IfDone (Set b) (call b))
+      → QuietBy s settle (on call s) (reply_on c s)
+  settled-reply c call e k = quiet-reply s settle c call (λ w. rw (e (buffer_in s)) (settled-of w (call (buffer_in s)) (k (buffer_in s)))) refl
 
 -- ---- by the kind of call
 
 -- a call that is lent a fate list, from what its function answered and left
-module _ (s : Lent) (row : List ℕ) (stamps : List ℤ) (seconds : List Float) (lent : List (List ℕ)) (r : Counted) (ts : List (List ℤ)) (gs after : List (List ℕ)) (t : Step)
-    (told : t ≡ count_step r.answer r.head) where
+module _ (s : Lent) (row : List ℕ) (stamps : List ℤ) (seconds : List Float) (lent : List (List ℕ)) (r : CallResult ℕ) (h : Head) (ts : List (List ℤ)) (gs after : List (List ℕ)) where
   pub append-lined : (f : Offered) → get_or row 0 0 ≡ 0 → f ≡ offered_of row stamps
-      → Leaves s.head s.times s.tags lent (append_result (length lent) f s.head s.times s.tags) r ts gs after
-      → Lined (reply_on (lines_call row stamps seconds (length lent)) s) t ts gs lent after
-  append-lined f kind e h =
+      → Leaves s.head s.times s.tags lent (append_result (length lent) f s.head s.times s.tags) r h ts gs after
+      → Lined (reply_on (lines_call row stamps seconds (length lent)) s) (step_in (counted r) h) ts gs lent after
+  append-lined f kind e l =
       let c : lines_call row stamps seconds (length lent) ≡ append_call (length lent) f = rw (eq-eqb _ 0 kind, e) in
-      rw (c, told, h.0, h.1.0, h.1.1.0, h.1.1.1) (append-reply s lent (length lent) f)
+      rw (c, l.0, l.1.0, l.1.1.0, l.1.1.1.0, l.1.1.1.1) (append-reply s lent (length lent) f)
 
   pub remove-lined : (get_or row 0 0 ≡ 0 → ⊥)
-      → Leaves s.head s.times s.tags lent (remove_result (length lent) (get_or seconds 0 nan) (get_or seconds 1 nan) s.head s.times s.tags) r ts gs after
-      → Lined (reply_on (lines_call row stamps seconds (length lent)) s) t ts gs lent after
-  remove-lined kind h = rw (ne_eqb (get_or row 0 0) 0 kind, told, h.0, h.1.0, h.1.1.0, h.1.1.1) (remove-reply s lent (length lent) _ _)
+      → Leaves s.head s.times s.tags lent (remove_result (length lent) (get_or seconds 0 nan) (get_or seconds 1 nan) s.head s.times s.tags) r h ts gs after
+      → Lined (reply_on (lines_call row stamps seconds (length lent)) s) (step_in (counted r) h) ts gs lent after
+  remove-lined kind l = rw (ne_eqb (get_or row 0 0) 0 kind, l.0, l.1.0, l.1.1.0, l.1.1.1.0, l.1.1.1.1) (remove-reply s lent (length lent) _ _)
 
 -- one that is lent a range list
-module _ (s : Lent) (row : List ℕ) (lent after : List (List ℤ)) (r : Count) (t : Step) (told : t ≡ count_step r s.head) where
+module _ (s : Lent) (row : List ℕ) (lent after : List (List ℤ)) (r : CallResult ℕ) where
   pub track-spanned : get_or row 0 0 ≡ 8
-      → Reported r after (track_ranges_result (length lent) (get_or row 1 0) s.head s.times s.tags) lent
-      → Spanned (reply_on (ranges_call_of row (length lent)) s) t s.times s.tags lent after
-  track-spanned kind h =
+      → r ≡ range_count (track_ranges_result (length lent) (get_or row 1 0) s.head s.times s.tags)
+      → after ≡ ranges_after (track_ranges_result (length lent) (get_or row 1 0) s.head s.times s.tags) lent
+      → Spanned (reply_on (ranges_call_of row (length lent)) s) (step_in (counted r) s.head) s.times s.tags lent after
+  track-spanned kind a b =
       let c : ranges_call_of row (length lent) ≡ ranges_call (length lent) (get_or row 1 0) = rw (eq-eqb _ 8 kind) in
-      rw (c, told, h.answer, h.list) (ranges-reply s lent (length lent) (get_or row 1 0))
+      rw (c, a, b) (ranges-reply s lent (length lent) (get_or row 1 0))
 
-  pub common-spanned : (get_or row 0 0 ≡ 8 → ⊥) → Reported r after (common_ranges_result (length lent) s.head s.times s.tags) lent
-      → Spanned (reply_on (ranges_call_of row (length lent)) s) t s.times s.tags lent after
-  common-spanned kind h = rw (ne_eqb (get_or row 0 0) 8 kind, told, h.answer, h.list) (common-reply s lent (length lent))
+  pub common-spanned : (get_or row 0 0 ≡ 8 → ⊥) → r ≡ range_count (common_ranges_result (length lent) s.head s.times s.tags)
+      → after ≡ ranges_after (common_ranges_result (length lent) s.head s.times s.tags) lent
+      → Spanned (reply_on (ranges_call_of row (length lent)) s) (step_in (counted r) s.head) s.times s.tags lent after
+  common-spanned kind a b = rw (ne_eqb (get_or row 0 0) 8 kind, a, b) (common-reply s lent (length lent))
 
 -- abort and the setters
-module _ (s : Lent) (flag : ℕ) (x : Float) (r : Changed) where
+module _ (s : Lent) (flag : ℕ) (x : Float) (r : CallResult (Unit {0})) (h : Head) where
   abbrev Settles : ℕ → Type 0
-  Settles kind = IsQuiet (reply_on (setting_call kind flag x) s) (change_step r.answer r.head) s.times s.tags
+  Settles kind = IsQuiet (reply_on (setting_call kind flag x) s) (step_in (done r) h) s.times s.tags
 
-  pub abort-quiet : (kind : ℕ) → kind ≡ 2 → r ≡ abort_answer s.head s.times s.tags → Settles kind
-  unfolding abort_answer reply_to
-  abort-quiet kind k h = rw (k, h) (changed-reply s abort_call abort (λ b. refl) abort-set)
+  abbrev Sets : CallResult Buffer → Type 0
+  Sets y = (r ≡ set_answer y) × (h ≡ head_set y s.head)
 
-  pub mode-quiet : (kind : ℕ) (m : Mode) → kind ≡ 3 → m ≡ mode_of flag → r ≡ mode_answer m s.head s.times s.tags → Settles kind
-  unfolding mode_answer reply_to
-  mode-quiet kind m k e h =
-      rw (k, h, e)
-      (changed-reply s (mode_call (mode_of flag)) (λ b. done (mode_set (mode_of flag) b)) (λ b. refl)
+  pub abort-quiet : (kind : ℕ) → kind ≡ 2 → Sets (abort_result s.head s.times s.tags) → Settles kind
+  unfolding abort_result reply_to
+  abort-quiet kind k l = rw (k, l.0, l.1) (settled-reply s abort_call abort (λ b. refl) abort-set)
+
+  pub mode-quiet : (kind : ℕ) (m : Mode) → kind ≡ 3 → m ≡ mode_of flag → Sets (mode_result m s.head s.times s.tags) → Settles kind
+  unfolding mode_result reply_to
+  mode-quiet kind m k e l =
+      rw (k, l.0, l.1, e)
+      (settled-reply s (mode_call (mode_of flag)) (λ b. Ok (mode_set (mode_of flag) b)) (λ b. refl)
       (λ b. record { good = mode-good (mode_of flag) b; untouched = mode-untouched (mode_of flag) b }))
 
-  pub offset-quiet : (kind : ℕ) → kind ≡ 4 → r ≡ offset_answer x s.head s.times s.tags → Settles kind
-  unfolding offset_answer reply_to
-  offset-quiet kind k h = rw (k, h) (changed-reply s (offset_call x) (offset_set x) (λ b. refl) (offset_set_lem x))
+  pub offset-quiet : (kind : ℕ) → kind ≡ 4 → Sets (offset_result x s.head s.times s.tags) → Settles kind
+  unfolding offset_result reply_to
+  offset-quiet kind k l = rw (k, l.0, l.1) (settled-reply s (offset_call x) (offset_set x) (λ b. refl) (offset_set_lem x))
 
-  pub window-start-quiet : (kind : ℕ) → kind ≡ 5 → r ≡ window_start_answer x s.head s.times s.tags → Settles kind
-  unfolding window_start_answer reply_to
-  window-start-quiet kind k h = rw (k, h) (changed-reply s (window_start_call x) (window_start_set x) (λ b. refl) (window_start_set_lem x))
+  pub window-start-quiet : (kind : ℕ) → kind ≡ 5 → Sets (window_start_result x s.head s.times s.tags) → Settles kind
+  unfolding window_start_result reply_to
+  window-start-quiet kind k l = rw (k, l.0, l.1) (settled-reply s (window_start_call x) (window_start_set x) (λ b. refl) (window_start_set_lem x))
 
-  pub window_end-quiet : (kind : ℕ) → (kind ≡ 2 → ⊥) → (kind ≡ 3 → ⊥) → (kind ≡ 4 → ⊥) → (kind ≡ 5 → ⊥) → r ≡ window_end_answer x s.head s.times s.tags → Settles kind
-  unfolding window_end_answer reply_to
-  window_end-quiet kind a b c d h =
-      rw (ne_eqb kind 2 a, ne_eqb kind 3 b, ne_eqb kind 4 c, ne_eqb kind 5 d, h) (changed-reply s (window_end_call x) (window_end_set x) (λ e. refl) (window_end_set_lem x))
+  pub window_end-quiet : (kind : ℕ) → (kind ≡ 2 → ⊥) → (kind ≡ 3 → ⊥) → (kind ≡ 4 → ⊥) → (kind ≡ 5 → ⊥) → Sets (window_end_result x s.head s.times s.tags) → Settles kind
+  unfolding window_end_result reply_to
+  window_end-quiet kind a b c d l =
+      rw (ne_eqb kind 2 a, ne_eqb kind 3 b, ne_eqb kind 4 c, ne_eqb kind 5 d, l.0, l.1) (settled-reply s (window_end_call x) (window_end_set x) (λ e. refl) (window_end_set_lem x))
 
 -- ---- any call
 
@@ -296,6 +277,13 @@ module _ (row : List ℕ) (stamps : List ℤ) (seconds : List Float) (frames : L
         ne_eqb kind 11 (λ e. omega arith),
       )
 
+-- what `map` gives of a result
+pub mapped : {A : Type 0} (case : A → Given) (r : CallResult A) (q : CallResult Given)
+    → MatchResult r (λ x. IsOkAnd q (λ y. y ≡ case x)) (λ why. q ≡ Err why) → q ≡ given case r
+mapped case (Err why) q e = e
+mapped case (Ok x) (Ok y) e = ap Ok e
+mapped case (Ok x) (Err why) e = absurd e
+
 module _ (s : Lent) (row : List ℕ) (stamps : List ℤ) (seconds : List Float) (frames : List (List ℤ)) (lines₀ lines : List (List ℕ)) (spans₀ spans : List (List ℤ)) where
   abbrev kind : ℕ
   kind = get_or row 0 0
@@ -307,27 +295,29 @@ module _ (s : Lent) (row : List ℕ) (stamps : List ℤ) (seconds : List Float) 
       → Lined (reply_on (lines_call row stamps seconds (length lines₀)) s) t ts gs lines₀ lines → Makes t ts gs lines spans₀
   made-lines t ts gs k h = rw (lt-ltb kind 2 k) (h spans₀)
 
-  pub made-change : (r : Changed) (t : Step) → 2 ≤ kind → kind < 7 → t ≡ change_step r.answer r.head
-      → IsQuiet (reply_on (setting_call kind (get_or row 2 0) (get_or seconds 0 nan)) s) (change_step r.answer r.head) s.times s.tags
-      → Makes t s.times s.tags lines₀ spans₀
-  made-change r t k l e h = rw (le-ltb kind 2 k, lt-ltb kind 7 l, e) (h lines₀ spans₀)
+  pub made-setting : (t : Step) → 2 ≤ kind → kind < 7
+      → IsQuiet (reply_on (setting_call kind (get_or row 2 0) (get_or seconds 0 nan)) s) t s.times s.tags → Makes t s.times s.tags lines₀ spans₀
+  made-setting t k l h = rw (le-ltb kind 2 k, lt-ltb kind 7 l) (h lines₀ spans₀)
 
-  pub made-reading : (r : Read) (t : Step) → kind ≡ 7 → r ≡ settings_answer s.head s.times s.tags → t ≡ read_step r s.head
-      → Makes t s.times s.tags lines₀ spans₀
-  made-reading r t k e f = rw (k, f, e) (read-reply s lines₀ spans₀)
+  pub made-reading : (q : CallResult Given) → kind ≡ 7 → q ≡ given Given.Settings (settings_result s.head s.times s.tags)
+      → Makes (step_in q s.head) s.times s.tags lines₀ spans₀
+  made-reading q k e = rw (k, e) (read-reply s lines₀ spans₀)
 
-  pub made-ranges : (t : Step) → 7 ≤ kind → (kind ≡ 7 → ⊥) → kind < 10
+  pub made-ranges : (t : Step) → 7 < kind → kind < 10
       → Spanned (reply_on (ranges_call_of row (length spans₀)) s) t s.times s.tags spans₀ spans → Makes t s.times s.tags lines₀ spans
-  made-ranges t k l m h = rw (le-ltb kind 2 (omega arith), le-ltb kind 7 k, ne_eqb kind 7 l, lt-ltb kind 10 m) (h lines₀)
+  made-ranges t k m h = rw (le-ltb kind 2 (omega arith), le-ltb kind 7 (omega arith), ne_eqb kind 7 (λ e. omega arith), lt-ltb kind 10 m) (h lines₀)
 
-  pub made-batch : (t : Step) (ts : List (List ℤ)) (gs : List (List ℕ)) → kind ≡ 10
-      → Lined (reply_on (batch_call (length lines₀) (map offered_in frames)) s) t ts gs lines₀ lines → Makes t ts gs lines spans₀
-  made-batch t ts gs k h = rw k (h spans₀)
+  pub made-batch : (r : CallResult Accepted) (q : CallResult Given) (h : Head) (ts : List (List ℤ)) (gs : List (List ℕ)) → kind ≡ 10 → q ≡ given Given.Batch r
+      → LeavesBatch s.head s.times s.tags lines₀ (batch_result (length lines₀) (map offered_in frames) s.head s.times s.tags) r h ts gs lines
+      → Makes (step_in q h) ts gs lines spans₀
+  made-batch r q h ts gs k e l =
+      rw (k, e, l.0, l.1.0, l.1.1.0, l.1.1.1.0, l.1.1.1.1) (batch-reply s lines₀ (length lines₀) (map offered_in frames) spans₀)
 
-  pub made-walk : (t : Step) → kind ≡ 11
-      → IsQuiet (reply_on (walked_call (length spans₀) (get_or row 1 0)) s) t s.times s.tags → Makes t s.times s.tags lines₀ spans₀
-  made-walk t k h = rw (walk_call row stamps seconds frames (length lines₀) (length spans₀) k) (h lines₀ spans₀)
+  pub made-walk : (q : CallResult Given) → kind ≡ 11 → q ≡ counted (walked_result (length spans₀) (get_or row 1 0) s.head s.times s.tags)
+      → Makes (step_in q s.head) s.times s.tags lines₀ spans₀
+  made-walk q k e = rw (walk_call row stamps seconds frames (length lines₀) (length spans₀) k, e) (walk-reply s (length spans₀) (get_or row 1 0) lines₀ spans₀)
 
-  pub made-seek : (t : Step) → 10 ≤ kind → (kind ≡ 10 → ⊥) → (kind ≡ 11 → ⊥)
-      → IsQuiet (reply_on (seek_call (get_or row 1 0) (get_or stamps 0 (pos 0))) s) t s.times s.tags → Makes t s.times s.tags lines₀ spans₀
-  made-seek t k l m h = rw (seek_call_lem row stamps seconds frames (length lines₀) (length spans₀) (omega (arith, l, m))) (h lines₀ spans₀)
+  pub made-seek : (q : CallResult Given) → 11 < kind → q ≡ given Given.Decoding (seek_result (get_or row 1 0) (get_or stamps 0 (pos 0)) s.head s.times s.tags)
+      → Makes (step_in q s.head) s.times s.tags lines₀ spans₀
+  made-seek q k e =
+      rw (seek_call_lem row stamps seconds frames (length lines₀) (length spans₀) k, e) (seek-reply s (get_or row 1 0) (get_or stamps 0 (pos 0)) lines₀ spans₀)

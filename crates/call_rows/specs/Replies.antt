@@ -1,21 +1,17 @@
 -- What one call on a head and two arrays gives, in the run's words and as numbers.
-use Rattle.std.specs.Prelude.{◌≡◌, cond, List, [], ◌∷◌, ◌++◌, ℕ, ◌+◌, Float, ℤ, length, take, drop}
+use Rattle.std.specs.Prelude.{◌≡◌, cond, List, [], ◌∷◌, ◌++◌, ℕ, ◌+◌, Float, ℤ, length, take, drop, Ok, Err}
+use Rattle.std.specs.Result.{result_and, result_map_both}
 use Rattle.seconds.specs.Seconds.{zero_seconds}
-use Rattle.buffer_state.specs.declared.Accepted.{Accepted}
-use Rattle.buffer_state.specs.declared.Answer as Code
-use Rattle.buffer_state.specs.declared.Answer.TheVariants as Said
-use Rattle.buffer_state.specs.declared.Count.{Count}
 use Rattle.buffer_state.specs.declared.Head.{Head}
-use Rattle.buffer_state.specs.declared.Read.{Read}
 use Rattle.buffer_state.specs.declared.Refusal.TheVariants.{IllFormed}
-use Rattle.buffer_state.specs.declared.Sought.{Sought}
 use Rattle.buffer_state.specs.declared.WindowEnd.{WindowEnd}
 use Rattle.buffer_state.specs.declared.WindowEnd.TheVariants.{Unbounded, At}
 use Rattle.buffer_state.specs.Answers.{written, laid_ranges}
 use Rattle.buffer_state.specs.Lent.{Lent, lent_of, buffer_in, well_formed_at}
 use Rattle.buffer_state.specs.Ranges.{Range}
-use Rattle.buffer_state.specs.Refusals.{CallResult, refused, done, refusal_number, stop_number}
+use Rattle.buffer_state.specs.Refusals.{CallResult, refusal_number, stop_number}
 use Rattle.buffer_state.specs.Run.{Call, Answer, ok, fates, settings, ranges, accepted, taken, decoding, Reply, reply_to, lines_in, accepted_in}
+use Rattle.call_rows.specs.declared.Given.{Given}
 use Rattle.call_rows.specs.declared.Step.{Step}
 
 abbrev pub lent : Head → List (List ℤ) → List (List ℕ) → Lent
@@ -32,14 +28,14 @@ laid_reply r = record { result = r.result; after = lent_of r.after }
 
 unfoldable pub reply_on : Call → Lent → Replied
 reply_on c s =
-    cond (well_formed_at s.head s.times s.tags) (laid_reply (reply_to c (buffer_in s))) (record { result = refused IllFormed; after = s })
+    cond (well_formed_at s.head s.times s.tags) (laid_reply (reply_to c (buffer_in s))) (record { result = Err IllFormed; after = s })
 
 -- ---- a result as numbers
 
 -- the refusal's number, 0 where there is none
 abbrev pub number_of : CallResult Answer → ℕ
-number_of (refused why) = refusal_number why
-number_of (done a) = 0
+number_of (Err why) = refusal_number why
+number_of (Ok a) = 0
 
 -- a window end where there is one, else 0
 abbrev pub end_of : WindowEnd → Float
@@ -53,60 +49,60 @@ doubles_with (At x) = 3
 -- how many lines or ranges it has; of a reading, how many doubles: 2 where there is no window end; of a walk, how many frames it took;
 -- of a seek, how many there are to decode
 abbrev pub size_of : CallResult Answer → ℕ
-size_of (refused why) = 0
-size_of (done ok) = 0
-size_of (done (fates ls)) = length ls
-size_of (done (settings r)) = doubles_with r.end
-size_of (done (ranges rs)) = length rs
-size_of (done (accepted n stop ls)) = length ls
-size_of (done (taken n)) = n
-size_of (done (decoding s)) = s.count
+size_of (Err why) = 0
+size_of (Ok ok) = 0
+size_of (Ok (fates ls)) = length ls
+size_of (Ok (settings r)) = doubles_with r.end
+size_of (Ok (ranges rs)) = length rs
+size_of (Ok (accepted n stop ls)) = length ls
+size_of (Ok (taken n)) = n
+size_of (Ok (decoding s)) = s.count
 
 -- what stopped a batch, as its number
 abbrev pub stop_in : CallResult Answer → ℕ
-stop_in (refused why) = 0
-stop_in (done ok) = 0
-stop_in (done (fates ls)) = 0
-stop_in (done (settings r)) = 0
-stop_in (done (ranges rs)) = 0
-stop_in (done (accepted n stop ls)) = stop_number stop
-stop_in (done (taken n)) = 0
-stop_in (done (decoding s)) = 0
+stop_in (Err why) = 0
+stop_in (Ok ok) = 0
+stop_in (Ok (fates ls)) = 0
+stop_in (Ok (settings r)) = 0
+stop_in (Ok (ranges rs)) = 0
+stop_in (Ok (accepted n stop ls)) = stop_number stop
+stop_in (Ok (taken n)) = 0
+stop_in (Ok (decoding s)) = 0
 
 -- the numbers of a seek's target and of the flagged frame from which to decode
 abbrev pub target_in : CallResult Answer → ℕ
-target_in (refused why) = 0
-target_in (done ok) = 0
-target_in (done (fates ls)) = 0
-target_in (done (settings r)) = 0
-target_in (done (ranges rs)) = 0
-target_in (done (accepted n stop ls)) = 0
-target_in (done (taken n)) = 0
-target_in (done (decoding s)) = s.target
+target_in (Err why) = 0
+target_in (Ok ok) = 0
+target_in (Ok (fates ls)) = 0
+target_in (Ok (settings r)) = 0
+target_in (Ok (ranges rs)) = 0
+target_in (Ok (accepted n stop ls)) = 0
+target_in (Ok (taken n)) = 0
+target_in (Ok (decoding s)) = s.target
 
 abbrev pub flagged_in : CallResult Answer → ℕ
-flagged_in (refused why) = 0
-flagged_in (done ok) = 0
-flagged_in (done (fates ls)) = 0
-flagged_in (done (settings r)) = 0
-flagged_in (done (ranges rs)) = 0
-flagged_in (done (accepted n stop ls)) = 0
-flagged_in (done (taken n)) = 0
-flagged_in (done (decoding s)) = s.flagged
+flagged_in (Err why) = 0
+flagged_in (Ok ok) = 0
+flagged_in (Ok (fates ls)) = 0
+flagged_in (Ok (settings r)) = 0
+flagged_in (Ok (ranges rs)) = 0
+flagged_in (Ok (accepted n stop ls)) = 0
+flagged_in (Ok (taken n)) = 0
+flagged_in (Ok (decoding s)) = s.flagged
 
 abbrev pub no_doubles : List Float
 no_doubles = zero_seconds ∷ zero_seconds ∷ zero_seconds ∷ []
 
 -- the reading: offset, window start, window end
 abbrev pub doubles_in : CallResult Answer → List Float
-doubles_in (refused why) = no_doubles
-doubles_in (done ok) = no_doubles
-doubles_in (done (fates ls)) = no_doubles
-doubles_in (done (settings r)) = r.offset ∷ r.start ∷ end_of r.end ∷ []
-doubles_in (done (ranges rs)) = no_doubles
-doubles_in (done (accepted n stop ls)) = no_doubles
-doubles_in (done (taken n)) = no_doubles
-doubles_in (done (decoding s)) = no_doubles
+doubles_in (Err why) = no_doubles
+doubles_in (Ok ok) = no_doubles
+doubles_in (Ok (fates ls)) = no_doubles
+doubles_in (Ok (settings r)) = r.offset ∷ r.start ∷ end_of r.end ∷ []
+doubles_in (Ok (ranges rs)) = no_doubles
+doubles_in (Ok (accepted n stop ls)) = no_doubles
+doubles_in (Ok (taken n)) = no_doubles
+doubles_in (Ok (decoding s)) = no_doubles
 
 abbrev pub step_of : Replied → Step
 step_of r = record {
@@ -123,14 +119,14 @@ step_of r = record {
 -- ---- what is lent, after a call
 
 abbrev pub ranges_in : CallResult Answer → List Range
-ranges_in (refused why) = []
-ranges_in (done ok) = []
-ranges_in (done (fates ls)) = []
-ranges_in (done (settings r)) = []
-ranges_in (done (ranges rs)) = rs
-ranges_in (done (accepted n stop ls)) = []
-ranges_in (done (taken n)) = []
-ranges_in (done (decoding s)) = []
+ranges_in (Err why) = []
+ranges_in (Ok ok) = []
+ranges_in (Ok (fates ls)) = []
+ranges_in (Ok (settings r)) = []
+ranges_in (Ok (ranges rs)) = rs
+ranges_in (Ok (accepted n stop ls)) = []
+ranges_in (Ok (taken n)) = []
+ranges_in (Ok (decoding s)) = []
 
 -- its lines, then what the list held before
 abbrev pub fates_after : CallResult Answer → List (List ℕ) → List (List ℕ)
@@ -171,7 +167,17 @@ pub record CalledAt (r : Replied) (t : Step) (ts : List (List ℤ)) (gs lines₀
   pub fates : lines ≡ written_at lines₀ at (written (lines_in r.result))
   pub ranges : spans ≡ written_at spans₀ placed (laid_ranges (ranges_in r.result))
 
--- ---- the same from the code's answers
+-- ---- the same from what the code's calls give
+
+-- what a call gives, as one of the cases
+abbrev pub given : {A : Type 0} → (A → Given) → CallResult A → CallResult Given
+given = λ case. result_map_both case (λ why. why)
+
+abbrev pub counted : CallResult ℕ → CallResult Given
+counted = given Given.Count
+
+abbrev pub done : CallResult (Unit {0}) → CallResult Given
+done r = result_and r (Ok Given.Nothing)
 
 -- of a call that is no batch and no seek, its doubles given: what only these tell is 0
 abbrev pub step_with : ℕ → ℕ → List Float → Head → Step
@@ -180,33 +186,12 @@ step_with refusal count doubles h = record { refusal = refusal; count = count; a
 abbrev pub plain_step : ℕ → ℕ → Head → Step
 plain_step refusal count h = step_with refusal count no_doubles h
 
-abbrev pub change_step : Code.Answer → Head → Step
-change_step Said.Done h = plain_step 0 0 h
-change_step (Said.Refused why) h = plain_step (refusal_number why) 0 h
-
-abbrev pub count_step : Count → Head → Step
-count_step (Count.Done n) h = plain_step 0 n h
-count_step (Count.Refused why) h = plain_step (refusal_number why) 0 h
-
-abbrev pub read_step : Read → Head → Step
-read_step (Read.Bounded offset start end) h = step_with 0 3 (offset ∷ start ∷ end ∷ []) h
-read_step (Read.Unbounded offset start) h = step_with 0 2 (offset ∷ start ∷ zero_seconds ∷ []) h
-read_step (Read.Refused why) h = plain_step (refusal_number why) 0 h
-
--- what a batch tells beside a count
-abbrev pub with_accepted : ℕ → ℕ → Step → Step
-with_accepted n stop t =
-    record { refusal = t.refusal; count = t.count; accepted = n; stop = stop; target = t.target; flagged = t.flagged; doubles = t.doubles; head = t.head }
-
-abbrev pub accepted_step : Accepted → Head → Step
-accepted_step (Accepted.Done n lines stop) h = with_accepted n (stop_number stop) (plain_step 0 lines h)
-accepted_step (Accepted.Refused why) h = plain_step (refusal_number why) 0 h
-
--- what a seek tells beside a count
-abbrev pub with_start : ℕ → ℕ → Step → Step
-with_start target flagged t =
-    record { refusal = t.refusal; count = t.count; accepted = t.accepted; stop = t.stop; target = target; flagged = flagged; doubles = t.doubles; head = t.head }
-
-abbrev pub sought_step : Sought → Head → Step
-sought_step (Sought.Found target flagged count) h = with_start target flagged (plain_step 0 count h)
-sought_step (Sought.Refused why) h = plain_step (refusal_number why) 0 h
+abbrev pub step_in : CallResult Given → Head → Step
+step_in (Err why) h = plain_step (refusal_number why) 0 h
+step_in (Ok Given.Nothing) h = plain_step 0 0 h
+step_in (Ok (Given.Count n)) h = plain_step 0 n h
+step_in (Ok (Given.Settings r)) h = step_with 0 (doubles_with r.end) (r.offset ∷ r.start ∷ end_of r.end ∷ []) h
+step_in (Ok (Given.Batch a)) h =
+    record { refusal = 0; count = a.lines; accepted = a.frames; stop = stop_number a.stop; target = 0; flagged = 0; doubles = no_doubles; head = h }
+step_in (Ok (Given.Decoding s)) h =
+    record { refusal = 0; count = s.count; accepted = 0; stop = 0; target = s.target; flagged = s.flagged; doubles = no_doubles; head = h }

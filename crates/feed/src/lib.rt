@@ -9,7 +9,7 @@ ghost use Rattle.feed.specs.Parts.{part_of};
 fn inside(n: usize, start: usize, end: usize) -> bool
     ensures { result ≡ is_within n start end }
 {
-    (end <= n) & (start <= end)
+    end <= n && start <= end
 }
 
 // The initialization bytes whole, or the part of the segment at a place. A place that is not in the segment gives an empty part of it.

@@ -1,3 +1,4 @@
+pub mod Fields
 pub mod FullBoxes
 pub mod Headers
 pub mod Runs

@@ -1,14 +1,14 @@
 -- Document 02, No. 1: a track run (ISO/IEC 14496-12, 8.8.8, `trun`), version 0 or 1. After version and flags: the count of its samples; then,
 -- by the flags and in 4 bytes each, the data offset (1) and the first sample's flags (4); then for each sample the columns that the flags
 -- name: duration (256), size (512), flags (1,024) and composition offset (2,048), which is signed in version 1.
-use Rattle.std.specs.Prelude.{cond, ◌&&◌, List, [], ◌∷◌, ℕ, zero, suc, ◌+◌, ◌*◌, ◌≤◌, ℤ, pos, ◌-ℤ◌, length, drop, ltb, leb, eqb}
-use Rattle.boxes.specs.Boxes.{be4}
+use Rattle.std.specs.Prelude.{cond, ◌&&◌, List, [], ◌∷◌, ℕ, zero, suc, ◌+◌, ◌*◌, ◌≤◌, ℤ, pos, ◌-ℤ◌, length, drop, ltb, leb, eqb, Result, Ok}
+use Rattle.boxes.specs.Boxes.{be4, refused}
+use Rattle.boxes.specs.declared.Malformed.{Malformed}
 use Rattle.media_times.specs.declared.Sample.{Sample}
+use Rattle.fragments.specs.Fields.{◌>>=◌, number_at}
 use Rattle.fragments.specs.FullBoxes.{version_of, flag_in, optional, field_at}
 use Rattle.fragments.specs.declared.Defaults.{Defaults}
 use Rattle.fragments.specs.declared.Run.{Run}
-use Rattle.fragments.specs.declared.ReadRun.{ReadRun}
-use Rattle.fragments.specs.declared.ReadRun.TheVariants.{Bad, Is}
 
 -- where the first sample's flags stand, and the first sample's columns
 abbrev pub first_flags_at : ℕ → ℕ
@@ -31,14 +31,17 @@ abbrev pub width_of : ℕ → ℕ
 width_of word = offset_column word + optional word 2048 4
 
 -- a run of so many samples, where its version is known and it has room for its fields and columns
-unfoldable pub run_by : List ℕ → ℕ → ℕ → ReadRun
+unfoldable pub run_by : List ℕ → ℕ → ℕ → Result Run Malformed
 run_by b word count =
     cond (leb (version_of word) 1)
-    (cond (ltb (length b) (columns_at word + count * width_of word)) Bad (Is (record { word = word; count = count })))
-    Bad
+    (cond (ltb (length b) (columns_at word + count * width_of word)) refused (Ok (record { word = word; count = count })))
+    refused
 
-unfoldable pub run_of : List ℕ → ReadRun
-run_of b = cond (ltb (length b) 8) Bad (run_by b (be4 b) (be4 (drop 4 b)))
+unfoldable pub run_of : List ℕ → Result Run Malformed
+run_of b = do
+  word ← number_at b
+  count ← number_at word.1
+  run_by b word.0 count.0
 
 -- ---- its samples
 

@@ -1,13 +1,17 @@
 // The boxes of a track fragment, each parser over its own body: header, decode time, run, and one sample of a run.
 #![tactic(auto)]
 
+mod fields;
+
 ghost use Rattle.std.specs.Prelude.{◌≡◌, true, ◌+◌, ◌≤◌, ◌<◌, length};
 ghost use Rattle.std.specs.Int.Signed.{mag};
-ghost use Rattle.fragments.specs.FullBoxes.{flag_in, optional, field_at};
-ghost use Rattle.fragments.specs.Headers.{duration_at, size_at, flags_at, header_end, header_by, header_of};
+ghost use Rattle.fragments.specs.FullBoxes.{version_of, flag_in, optional, field_at};
+ghost use Rattle.fragments.specs.Headers.{header_of};
 ghost use Rattle.fragments.specs.Runs.{first_flags_at, columns_at, size_column, flags_column, offset_column, width_of, run_by, run_of, offset_by, sample_from, flags_of, sample_at, Fitting};
-ghost use Rattle.fragments.specs.Times.{time_by, time_of};
+ghost use Rattle.fragments.specs.Times.{time_of};
 
+use boxes::Malformed;
+use fields::Fields;
 use media_times::Sample;
 
 // What holds of a sample that says nothing else.
@@ -32,25 +36,24 @@ pub struct Run {
     pub count: u32,
 }
 
-#[derive(Clone, Copy)]
-pub enum ReadHeader {
-    Bad,
-    Is(Header),
-}
+// The flags of a header: the fields that it has.
+const BASE_DATA_OFFSET: u32 = 1;
 
-#[derive(Clone, Copy)]
-pub enum ReadTime {
-    Bad,
-    At(u64),
-}
+const SAMPLE_DESCRIPTION: u32 = 2;
 
-#[derive(Clone, Copy)]
-pub enum ReadRun {
-    Bad,
-    Is(Run),
-}
+const DEFAULT_DURATION: u32 = 8;
+
+const DEFAULT_SIZE: u32 = 16;
+
+const DEFAULT_FLAGS: u32 = 32;
 
 // ---- full boxes
+
+fn version_of(word: u32) -> u32
+    ensures { result ≡ version_of word }
+{
+    word / 16777216
+}
 
 fn flag_in(word: u32, flag: u32) -> bool
     requires { 0 < flag }
@@ -81,45 +84,23 @@ fn field_at(b: &[u8], at: usize, there: bool, default: u32) -> u32
 
 // ---- track fragment header
 
-fn duration_at(word: u32) -> usize
-    ensures { (result ≡ duration_at word) × (result ≤ 20) }
+// The header in the body of a `tfhd`. A default that it does not have is the call's.
+#[tactic(auto, unfolding(crate::specs::Headers::header_of))]
+pub fn header_of(d: Defaults, b: &[u8]) -> Result<Header, Malformed>
+    ensures { result ≡ header_of d b.now }
 {
-    8 + optional(word, 1, 8) + optional(word, 2, 4)
-}
-
-fn size_at(word: u32) -> usize
-    ensures { (result ≡ size_at word) × (result ≤ 24) }
-{
-    duration_at(word) + optional(word, 8, 4)
-}
-
-fn flags_at(word: u32) -> usize
-    ensures { (result ≡ flags_at word) × (result ≤ 28) }
-{
-    size_at(word) + optional(word, 16, 4)
-}
-
-fn header_end(word: u32) -> usize
-    ensures { result ≡ header_end word }
-{
-    flags_at(word) + optional(word, 32, 4)
-}
-
-fn header_by(d: Defaults, b: &[u8], word: u32) -> ReadHeader
-    requires { 8 ≤ length b.now }
-    ensures { result ≡ header_by d b.now word }
-{
-    if word / 16777216 != 0 {
-        return ReadHeader::Bad;
+    let mut fields = Fields::new(b);
+    let word = fields.u32()?;
+    if version_of(word) != 0 {
+        return Err(Malformed);
     }
-    if b.len() < header_end(word) {
-        return ReadHeader::Bad;
-    }
-    let id = boxes::read4(b, 4);
-    let duration = field_at(b, duration_at(word), flag_in(word, 8), d.duration);
-    let size = field_at(b, size_at(word), flag_in(word, 16), d.size);
-    let flags = field_at(b, flags_at(word), flag_in(word, 32), d.flags);
-    ReadHeader::Is(Header {
+    let id = fields.u32()?;
+    fields.skip(optional(word, BASE_DATA_OFFSET, 8))?;
+    fields.skip(optional(word, SAMPLE_DESCRIPTION, 4))?;
+    let duration = fields.optional(flag_in(word, DEFAULT_DURATION), d.duration)?;
+    let size = fields.optional(flag_in(word, DEFAULT_SIZE), d.size)?;
+    let flags = fields.optional(flag_in(word, DEFAULT_FLAGS), d.flags)?;
+    Ok(Header {
         id,
         defaults: Defaults {
             duration,
@@ -129,46 +110,20 @@ fn header_by(d: Defaults, b: &[u8], word: u32) -> ReadHeader
     })
 }
 
-// The header in the body of a `tfhd`.
-pub fn header_of(d: Defaults, b: &[u8]) -> ReadHeader
-    ensures { result ≡ header_of d b.now }
-{
-    if b.len() < 8 {
-        return ReadHeader::Bad;
-    }
-    let word = boxes::read4(b, 0);
-    header_by(d, b, word)
-}
-
 // ---- decode time
 
-fn time_by(b: &[u8], version: u32) -> ReadTime
-    requires { 8 ≤ length b.now }
-    ensures { result ≡ time_by b.now version }
-{
-    if version == 0 {
-        let short = boxes::read4(b, 4);
-        return ReadTime::At(short as u64);
-    }
-    if version != 1 {
-        return ReadTime::Bad;
-    }
-    if b.len() < 12 {
-        return ReadTime::Bad;
-    }
-    let long = boxes::read8(b, 4);
-    ReadTime::At(long)
-}
-
 // The decode time in the body of a `tfdt`.
-pub fn time_of(b: &[u8]) -> ReadTime
+#[tactic(auto, unfolding(crate::specs::Times::time_of))]
+pub fn time_of(b: &[u8]) -> Result<u64, Malformed>
     ensures { result ≡ time_of b.now }
 {
-    if b.len() < 8 {
-        return ReadTime::Bad;
+    let mut fields = Fields::new(b);
+    let word = fields.u32()?;
+    match version_of(word) {
+        0 => Ok(u64::from(fields.u32()?)),
+        1 => fields.u64(),
+        _ => Err(Malformed),
     }
-    let word = boxes::read4(b, 0);
-    time_by(b, word / 16777216)
 }
 
 // ---- run
@@ -210,33 +165,33 @@ pub fn width_of(word: u32) -> usize
     offset_column(word) + optional(word, 2048, 4)
 }
 
-fn run_by(b: &[u8], word: u32, count: u32) -> ReadRun
+fn run_by(b: &[u8], word: u32, count: u32) -> Result<Run, Malformed>
     ensures { result ≡ run_by b.now word count }
 {
     if word / 16777216 > 1 {
-        return ReadRun::Bad;
+        return Err(Malformed);
     }
     let from = columns_at(word);
     let width = width_of(word);
     if b.len() < from + (count as usize) * width {
-        return ReadRun::Bad;
+        return Err(Malformed);
     }
-    ReadRun::Is(Run { word, count })
+    Ok(Run { word, count })
 }
 
 // The run in the body of a `trun`.
-pub fn run_of(b: &[u8]) -> ReadRun
+#[tactic(auto, unfolding(crate::specs::Runs::run_of))]
+pub fn run_of(b: &[u8]) -> Result<Run, Malformed>
     ensures { result ≡ run_of b.now }
 {
-    if b.len() < 8 {
-        return ReadRun::Bad;
-    }
-    let word = boxes::read4(b, 0);
-    let count = boxes::read4(b, 4);
+    let mut fields = Fields::new(b);
+    let word = fields.u32()?;
+    let count = fields.u32()?;
     run_by(b, word, count)
 }
 
 // ---- a sample of a run
+// Found by its place and not read in turn: of a run without columns only those samples are walked that a place is left for.
 
 fn offset_by(word: u32, n: u32) -> i64
     ensures { (result ≡ offset_by word n) × (mag result < 4294967296) }

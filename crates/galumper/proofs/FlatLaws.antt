@@ -1,6 +1,7 @@
 -- To lay a head flat and to read it back undo each other: `head-back` for every head whose doubles are numbers, and `flat_back` for every
 -- flat head whose numbers are of their kind. Where one is not, every call is refused 1 (`spoilt-refused`); an offered frame's flag that
 -- is none is refused 4, in its order (`flag-refused`).
+use Rattle.std.specs.Prelude.{Err}
 use mathlib.Core.Path.{◌≡◌, refl, sym, ap, ap₂, ◌∙◌}
 use mathlib.Core.Bool.{Bool, true, false, cond, ◌&&◌}
 use mathlib.Core.List.{List, [], ◌∷◌, map}
@@ -26,7 +27,7 @@ use Rattle.buffer_state.specs.Buffer.{Buffer, has_track}
 use Rattle.buffer_state.specs.Layout.{laid_out, well_formed}
 use Rattle.buffer_state.specs.Lent.{state_at, plain_time, plain_tag, well_formed_at, on_lent}
 use Rattle.buffer_state.specs.Limits.{offered_time, good_duration, places}
-use Rattle.buffer_state.specs.Refusals.{CallResult, refused}
+use Rattle.buffer_state.specs.Refusals.{CallResult}
 use Rattle.buffer_state.specs.WellFormed.{all_of, good_tracks, good_buffer}
 use Rattle.buffer_laws.proofs.KeptLaws.{EndHas, Keeps}
 use Rattle.buffer_laws.proofs.LentLaws.{ill-formed-refused}
@@ -237,14 +238,14 @@ trackless-ill c ts gs =
     and-fails (eqb (length ts) places && eqb (length gs) places) _ (and-fails (all_of plain_time ts) _ (and-fails (all_of plain_tag gs) _ (and-fails (laid_out (state_at (head_with 0 c) ts gs)) _ refl)))
 
 pub spoilt-refused : {A : Type 0} (call : Buffer → CallResult A) (c : FlatHead) (ts : List (List ℤ)) (gs : List (List ℕ)) → plain_head c ≡ false
-    → on_lent call (head_in c) ts gs ≡ refused IllFormed
+    → on_lent call (head_in c) ts gs ≡ Err IllFormed
 spoilt-refused call c ts gs h =
     ill-formed-refused call (head_in c) ts gs
     (ap (λ (b : Bool). well_formed_at (head_with (cond b c.ntracks 0) c) ts gs) h ∙ trackless-ill c ts gs)
 
 -- an offered frame's flag that is neither 0 nor 1, after refusals 1, 2 and 3
 pub flag-refused : (lent : ℕ) (f : FlatOffered) (b : Buffer) → is_flag f.flagged ≡ false → ltb lent places ≡ false → has_track b f.track ≡ true
-    → append lent (offered_in f) b ≡ refused FrameLimits
+    → append lent (offered_in f) b ≡ Err FrameLimits
 unfolding append is_offerable good_duration
 flag-refused lent f b spoilt long known =
     let duration = ap (λ (t : Bool). good_duration (cond t f.duration 0)) spoilt in
@@ -264,6 +265,6 @@ pub reader-back : (r : LumpReader) → reader_in (reader_out r) ≡ r
 reader-back r = let e = phase-back r.phase in λ j. record { phase = e j; head = r.head; seen = r.seen; left = r.left; fragments = r.fragments; kept = r.kept }
 
 -- a number that is no phase has the call refused 1
-pub stray-phase : (c : FlatLumpReader) (buffer lump : List ℕ) (x : CallResult Taken) → 3 < c.phase → tested_result (reader_in c) buffer lump x ≡ refused IllFormed
+pub stray-phase : (c : FlatLumpReader) (buffer lump : List ℕ) (x : CallResult Taken) → 3 < c.phase → tested_result (reader_in c) buffer lump x ≡ Err IllFormed
 stray-phase c buffer lump x h =
     tested-ill (reader_in c) buffer lump x (large-ill (reader_in c) (rw (ne_eqb c.phase 0 (λ e. absurd (omega arith)), ne_eqb c.phase 1 (λ e. absurd (omega arith)), ne_eqb c.phase 2 (λ e. absurd (omega arith)), ne_eqb c.phase 3 (λ e. absurd (omega arith)))))

@@ -8,30 +8,30 @@
 #![tactic(auto)]
 
 ghost use Rattle.std.specs.Prelude.{◌≡◌, cond, map, ◌≤◌, length};
-ghost use Rattle.buffer_state.specs.Answers.{times_created, tags_created, times_after, tags_after, list_after, outcome_of, abort_answer, mode_answer, offset_answer, window_start_answer, window_end_answer, settings_answer, create_answer, range_count, ranges_after, track_ranges_result, common_ranges_result, taken_count, walked_result, seek_result};
+ghost use Rattle.std.specs.List.{list_all};
+ghost use Rattle.buffer_state.specs.Answers.{times_created, tags_created, times_after, tags_after, list_after, outcome_of, abort_result, mode_result, offset_result, window_start_result, window_end_result, settings_result, range_count, ranges_after, track_ranges_result, common_ranges_result, walked_result, seek_result};
 ghost use Rattle.buffer_state.specs.Layout.{buffer_of};
 ghost use Rattle.buffer_state.specs.Lent.{state_at};
-ghost use Rattle.buffer_state.specs.Refusals.{refusal_number};
 ghost use Rattle.buffer_state.specs.Run.{stored_on};
 ghost use Rattle.buffer_state.specs.declared.Mode.TheVariants.{Segments, Sequence};
 ghost use Rattle.buffer_state.specs.Settings.{create};
-ghost use Rattle.buffer_state.specs.WellFormed.{all_of};
 ghost use Rattle.segments.specs.Segments.{list_segment, row_count, rows_after};
 ghost use Rattle.feed.specs.Feed.{feed_of, feed_at};
 ghost use Rattle.feed.specs.Parts.{part_of, bytes_in, pointer_in};
 ghost use Rattle.lumps.specs.Lumps.{more_result, buffer_after, frames_after};
 ghost use Rattle.lumps.specs.Readers.{reader_of};
 ghost use Rattle.lumps.specs.Readings.{fresh};
-ghost use Rattle.galumper.specs.Calls.{refused_with, done_with, changed_out, handed_back, created_out, counted_out, outcome_out, append_flat, remove_flat, whole_refused, accepted_with, batched_out, batch_flat, batch_out, report_out, sought_out, start_out, is_nonzero, part_in, lumped_out, last_flat, lump_out, reading_out};
+ghost use Rattle.galumper.specs.Calls.{answered_out, handed_back, created_out, outcome_out, append_flat, remove_flat, batched_out, batch_flat, batch_out, report_out, start_out, is_nonzero, part_in, lumped_out, last_flat, lump_out, reading_out};
 ghost use Rattle.galumper.specs.Flat.{abi, buffer_size, flag_out, mode_in, mode_out, end_in, bounded_out, end_out, track_in, track_out, group_in, group_out, setting_in, setting_out, settings_in, settings_out, duration_in, offered_in, segment_track_in, phase_in, phase_out, reader_in, reader_out, plain_track, plain_end, plain_settings, plain_head, head_in, head_out};
 
 use buffer_state::{
-    Accepted, Answer, Count, Group, Head, Mode, Offered, Read, Refusal, Setting, Settings, Sought,
-    Stop, Tags, Times, Track, WindowEnd,
+    Accepted, Group, Head, Mode, Offered, Refusal, Setting, Settings, Start, Tags, Times, Track,
+    WindowEnd,
 };
 use fragments::Defaults;
 use lumps::{LumpReader, Phase};
 use segments::SegmentTrack;
+use std::num::{f64_from_bits_with_nan, f64_to_bits_with_nan};
 
 // ---- what C sees
 
@@ -197,19 +197,17 @@ pub struct Reading {
 fn flag_out(b: bool) -> u8
     ensures { result ≡ flag_out b }
 {
-    if b {
-        return 1;
-    }
-    0
+    if b { 1 } else { 0 }
 }
 
 fn mode_in(n: u32) -> Mode
     ensures { result ≡ mode_in n }
 {
     if n == 1 {
-        return Mode::Sequence;
+        Mode::Sequence
+    } else {
+        Mode::Segments
     }
-    Mode::Segments
 }
 
 fn mode_out(m: Mode) -> u32
@@ -225,9 +223,10 @@ fn end_in(bounded: u64, bits: u64) -> WindowEnd
     ensures { result ≡ end_in bounded bits }
 {
     if bounded == 1 {
-        return WindowEnd::At(seconds::of_bits(bits));
+        WindowEnd::At(f64_from_bits_with_nan(bits))
+    } else {
+        WindowEnd::Unbounded
     }
-    WindowEnd::Unbounded
 }
 
 fn bounded_out(end: WindowEnd) -> u64
@@ -244,131 +243,126 @@ fn end_out(end: WindowEnd) -> u64
 {
     match end {
         WindowEnd::Unbounded => 0,
-        WindowEnd::At(x) => seconds::bits_of(x),
+        WindowEnd::At(x) => f64_to_bits_with_nan(x),
     }
 }
 
 // ---- the parts of a head, in and out
 
-fn track_in(t: FlatTrack) -> Track
-    ensures { result ≡ track_in t }
-{
-    Track {
-        kind: t.kind,
-        known: t.known == 1,
-        need: t.need == 1,
-        duration: t.duration,
-        dts: t.dts,
-        end: t.end,
+impl From<FlatTrack> for Track {
+    ghost from_gives = { λ flat t. t ≡ track_in flat };
+
+    fn from(t: FlatTrack) -> Track {
+        Track {
+            kind: t.kind,
+            known: t.known == 1,
+            need: t.need == 1,
+            duration: t.duration,
+            dts: t.dts,
+            end: t.end,
+        }
     }
 }
 
-fn track_out(t: Track) -> FlatTrack
-    ensures { result ≡ track_out t }
-{
-    let known = flag_out(t.known);
-    let need = flag_out(t.need) as u16;
-    FlatTrack {
-        kind: t.kind,
-        known,
-        need,
-        duration: t.duration,
-        dts: t.dts,
-        end: t.end,
+impl From<Track> for FlatTrack {
+    ghost from_gives = { λ t flat. flat ≡ track_out t };
+
+    fn from(t: Track) -> FlatTrack {
+        FlatTrack {
+            kind: t.kind,
+            known: flag_out(t.known),
+            need: flag_out(t.need) as u16,
+            duration: t.duration,
+            dts: t.dts,
+            end: t.end,
+        }
     }
 }
 
 fn tracks_in(ts: [FlatTrack; 4]) -> [Track; 4]
     ensures { result ≡ map track_in ts }
 {
-    let a = track_in(ts[0]);
-    let b = track_in(ts[1]);
-    let c = track_in(ts[2]);
-    let d = track_in(ts[3]);
-    [a, b, c, d]
+    [ts[0].into(), ts[1].into(), ts[2].into(), ts[3].into()]
 }
 
 fn tracks_out(ts: [Track; 4]) -> [FlatTrack; 4]
     ensures { result ≡ map track_out ts }
 {
-    let a = track_out(ts[0]);
-    let b = track_out(ts[1]);
-    let c = track_out(ts[2]);
-    let d = track_out(ts[3]);
-    [a, b, c, d]
+    [ts[0].into(), ts[1].into(), ts[2].into(), ts[3].into()]
 }
 
-fn group_in(g: FlatGroup) -> Group
-    ensures { result ≡ group_in g }
-{
-    Group {
-        begun: g.begun == 1,
-        start: g.start,
-        end: g.end,
-        number: g.number,
+impl From<FlatGroup> for Group {
+    ghost from_gives = { λ flat g. g ≡ group_in flat };
+
+    fn from(g: FlatGroup) -> Group {
+        Group {
+            begun: g.begun == 1,
+            start: g.start,
+            end: g.end,
+            number: g.number,
+        }
     }
 }
 
-fn group_out(g: Group) -> FlatGroup
-    ensures { result ≡ group_out g }
-{
-    let begun = flag_out(g.begun) as u32;
-    FlatGroup {
-        begun,
-        number: g.number,
-        start: g.start,
-        end: g.end,
+impl From<Group> for FlatGroup {
+    ghost from_gives = { λ g flat. flat ≡ group_out g };
+
+    fn from(g: Group) -> FlatGroup {
+        FlatGroup {
+            begun: flag_out(g.begun) as u32,
+            number: g.number,
+            start: g.start,
+            end: g.end,
+        }
     }
 }
 
-fn setting_in(x: FlatSetting) -> Setting
-    ensures { result ≡ setting_in x }
-{
-    let given = seconds::of_bits(x.bits);
-    Setting {
-        seconds: given,
-        micros: x.micros,
+impl From<FlatSetting> for Setting {
+    ghost from_gives = { λ flat x. x ≡ setting_in flat };
+
+    fn from(x: FlatSetting) -> Setting {
+        Setting {
+            seconds: f64_from_bits_with_nan(x.bits),
+            micros: x.micros,
+        }
     }
 }
 
-fn setting_out(x: Setting) -> FlatSetting
-    ensures { result ≡ setting_out x }
-{
-    let bits = seconds::bits_of(x.seconds);
-    FlatSetting {
-        bits,
-        micros: x.micros,
+impl From<Setting> for FlatSetting {
+    ghost from_gives = { λ x flat. flat ≡ setting_out x };
+
+    fn from(x: Setting) -> FlatSetting {
+        FlatSetting {
+            bits: f64_to_bits_with_nan(x.seconds),
+            micros: x.micros,
+        }
     }
 }
 
-fn settings_in(t: FlatSettings) -> Settings
-    ensures { result ≡ settings_in t }
-{
-    let offset = setting_in(t.offset);
-    let start = setting_in(t.start);
-    let end = end_in(t.bounded, t.end);
-    Settings {
-        offset,
-        start,
-        end,
-        limit: t.limit,
+impl From<FlatSettings> for Settings {
+    ghost from_gives = { λ flat t. t ≡ settings_in flat };
+
+    fn from(t: FlatSettings) -> Settings {
+        Settings {
+            offset: t.offset.into(),
+            start: t.start.into(),
+            end: end_in(t.bounded, t.end),
+            limit: t.limit,
+        }
     }
 }
 
-fn settings_out(t: Settings) -> FlatSettings
-    ensures { result ≡ settings_out t }
-{
-    let offset = setting_out(t.offset);
-    let start = setting_out(t.start);
-    let e = t.end;
-    let bounded = bounded_out(e);
-    let end = end_out(e);
-    FlatSettings {
-        offset,
-        start,
-        bounded,
-        end,
-        limit: t.limit,
+impl From<Settings> for FlatSettings {
+    ghost from_gives = { λ t flat. flat ≡ settings_out t };
+
+    fn from(t: Settings) -> FlatSettings {
+        FlatSettings {
+            offset: t.offset.into(),
+            start: t.start.into(),
+            bounded: bounded_out(t.end),
+            end: end_out(t.end),
+            limit: t.limit,
+        }
     }
 }
 
@@ -376,38 +370,37 @@ fn settings_out(t: Settings) -> FlatSettings
 fn duration_in(flagged: u8, duration: u32) -> u32
     ensures { result ≡ duration_in flagged duration }
 {
-    if flagged <= 1 {
-        return duration;
-    }
-    0
+    if flagged <= 1 { duration } else { 0 }
 }
 
-fn offered_in(f: FlatOffered) -> Offered
-    ensures { result ≡ offered_in f }
-{
-    let duration = duration_in(f.flagged, f.duration);
-    Offered {
-        track: f.track,
-        flagged: f.flagged == 1,
-        duration,
-        pts: f.pts,
-        dts: f.dts,
+impl From<FlatOffered> for Offered {
+    ghost from_gives = { λ flat f. f ≡ offered_in flat };
+
+    fn from(f: FlatOffered) -> Offered {
+        Offered {
+            track: f.track,
+            flagged: f.flagged == 1,
+            duration: duration_in(f.flagged, f.duration),
+            pts: f.pts,
+            dts: f.dts,
+        }
     }
 }
 
-fn segment_track_in(f: FlatSegmentTrack) -> SegmentTrack
-    ensures { result ≡ segment_track_in f }
-{
-    let defaults = Defaults {
-        duration: f.duration,
-        size: f.size,
-        flags: f.flags,
-    };
-    SegmentTrack {
-        id: f.id,
-        track: f.track,
-        timescale: f.timescale,
-        defaults,
+impl From<FlatSegmentTrack> for SegmentTrack {
+    ghost from_gives = { λ flat t. t ≡ segment_track_in flat };
+
+    fn from(f: FlatSegmentTrack) -> SegmentTrack {
+        SegmentTrack {
+            id: f.id,
+            track: f.track,
+            timescale: f.timescale,
+            defaults: Defaults {
+                duration: f.duration,
+                size: f.size,
+                flags: f.flags,
+            },
+        }
     }
 }
 
@@ -417,19 +410,13 @@ fn segment_track_in(f: FlatSegmentTrack) -> SegmentTrack
 fn phase_in(n: u32) -> Phase
     ensures { result ≡ phase_in n }
 {
-    if n == 0 {
-        return Phase::Heading;
+    match n {
+        0 => Phase::Heading,
+        1 => Phase::Passing,
+        2 => Phase::Keeping,
+        3 => Phase::Stuck,
+        _ => Phase::Large,
     }
-    if n == 1 {
-        return Phase::Passing;
-    }
-    if n == 2 {
-        return Phase::Keeping;
-    }
-    if n == 3 {
-        return Phase::Stuck;
-    }
-    Phase::Large
 }
 
 fn phase_out(phase: Phase) -> u32
@@ -444,34 +431,35 @@ fn phase_out(phase: Phase) -> u32
     }
 }
 
-fn reader_in(c: FlatLumpReader) -> LumpReader
-    ensures { result ≡ reader_in c }
-{
-    let phase = phase_in(c.phase);
-    let head = c.head;
-    LumpReader {
-        phase,
-        head,
-        seen: c.seen,
-        left: c.left,
-        fragments: c.fragments,
-        kept: c.kept,
+impl From<FlatLumpReader> for LumpReader {
+    ghost from_gives = { λ flat r. r ≡ reader_in flat };
+
+    fn from(c: FlatLumpReader) -> LumpReader {
+        let head = c.head;
+        LumpReader {
+            phase: phase_in(c.phase),
+            head,
+            seen: c.seen,
+            left: c.left,
+            fragments: c.fragments,
+            kept: c.kept,
+        }
     }
 }
 
-fn reader_out(r: LumpReader) -> FlatLumpReader
-    ensures { result ≡ reader_out r }
-{
-    let p = r.phase;
-    let phase = phase_out(p);
-    let head = r.head;
-    FlatLumpReader {
-        head,
-        left: r.left,
-        kept: r.kept,
-        seen: r.seen,
-        phase,
-        fragments: r.fragments,
+impl From<LumpReader> for FlatLumpReader {
+    ghost from_gives = { λ r flat. flat ≡ reader_out r };
+
+    fn from(r: LumpReader) -> FlatLumpReader {
+        let head = r.head;
+        FlatLumpReader {
+            head,
+            left: r.left,
+            kept: r.kept,
+            seen: r.seen,
+            phase: phase_out(r.phase),
+            fragments: r.fragments,
+        }
     }
 }
 
@@ -480,17 +468,13 @@ fn reader_out(r: LumpReader) -> FlatLumpReader
 fn plain_track(t: FlatTrack) -> bool
     ensures { result ≡ plain_track t }
 {
-    (t.known <= 1) & (t.need <= 1)
+    t.known <= 1 && t.need <= 1
 }
 
 fn plain_tracks(ts: [FlatTrack; 4]) -> bool
-    ensures { result ≡ all_of plain_track ts }
+    ensures { result ≡ list_all plain_track ts }
 {
-    let a = plain_track(ts[0]);
-    let b = plain_track(ts[1]);
-    let c = plain_track(ts[2]);
-    let d = plain_track(ts[3]);
-    a & (b & (c & d))
+    ts.iter().all(|t| plain_track(*t))
 }
 
 // No window end: its bits are those of zero.
@@ -498,248 +482,182 @@ fn plain_end(bounded: u64, bits: u64) -> bool
     ensures { result ≡ plain_end bounded bits }
 {
     if bounded == 1 {
-        return seconds::is_number(bits);
+        seconds::is_number(bits)
+    } else {
+        bounded == 0 && bits == 0
     }
-    (bounded == 0) & (bits == 0)
 }
 
 fn plain_settings(t: FlatSettings) -> bool
     ensures { result ≡ plain_settings t }
 {
-    let o = t.offset;
-    let s = t.start;
-    let offset = seconds::is_number(o.bits);
-    let start = seconds::is_number(s.bits);
-    let end = plain_end(t.bounded, t.end);
-    offset & (start & end)
+    seconds::is_number(t.offset.bits)
+        && seconds::is_number(t.start.bits)
+        && plain_end(t.bounded, t.end)
 }
 
+#[tactic(auto, using(crate::proofs::CopyLaws::all_listed), unfolding(crate::specs::Flat::plain_head))]
 fn plain_head(c: FlatHead) -> bool
     ensures { result ≡ plain_head c }
 {
-    let g = c.group;
-    let settings = plain_settings(c.settings);
-    let ts = c.tracks;
-    let tracks = plain_tracks(ts);
-    (c.mode <= 1) & ((g.begun <= 1) & (settings & tracks))
+    c.mode <= 1 && c.group.begun <= 1 && plain_settings(c.settings) && plain_tracks(c.tracks)
 }
 
 // ---- the head
 
-// The count of tracks of a flat head whose numbers are all of their kind; else none, so that the state is not well-formed.
-fn count_in(ok: bool, n: usize) -> usize
-    ensures { result ≡ cond ok n 0 }
-{
-    if ok {
-        return n;
-    }
-    0
-}
+// A flat head whose numbers are not all of their kind is read as one without tracks, so that the state is not well-formed.
+impl From<FlatHead> for Head {
+    ghost from_gives = { λ flat h. h ≡ head_in flat };
 
-fn head_in(c: FlatHead) -> Head
-    ensures { result ≡ head_in c }
-{
-    let ok = plain_head(c);
-    let ts = c.tracks;
-    let tracks = tracks_in(ts);
-    let ntracks = count_in(ok, c.ntracks);
-    let mode = mode_in(c.mode);
-    let group = group_in(c.group);
-    let settings = settings_in(c.settings);
-    Head {
-        tracks,
-        ntracks,
-        nframes: c.nframes,
-        mode,
-        group,
-        last: c.last,
-        settings,
+    fn from(c: FlatHead) -> Head {
+        Head {
+            tracks: tracks_in(c.tracks),
+            ntracks: if plain_head(c) { c.ntracks } else { 0 },
+            nframes: c.nframes,
+            mode: mode_in(c.mode),
+            group: c.group.into(),
+            last: c.last,
+            settings: c.settings.into(),
+        }
     }
 }
 
-// A head laid flat.
-fn head_out(h: Head) -> FlatHead
-    ensures { result ≡ head_out h }
-{
-    let ts = h.tracks;
-    let tracks = tracks_out(ts);
-    let m = h.mode;
-    let mode = mode_out(m);
-    let group = group_out(h.group);
-    let settings = settings_out(h.settings);
-    FlatHead {
-        tracks,
-        ntracks: h.ntracks,
-        nframes: h.nframes,
-        mode,
-        last: h.last,
-        group,
-        settings,
+impl From<Head> for FlatHead {
+    ghost from_gives = { λ h flat. flat ≡ head_out h };
+
+    fn from(h: Head) -> FlatHead {
+        FlatHead {
+            tracks: tracks_out(h.tracks),
+            ntracks: h.ntracks,
+            nframes: h.nframes,
+            mode: mode_out(h.mode),
+            last: h.last,
+            group: h.group.into(),
+            settings: h.settings.into(),
+        }
     }
 }
 
 // ---- what a call answered, laid flat
 
-// The head as it came, with the refusal's number.
-fn refused(c: FlatHead, why: Refusal) -> Answered
-    ensures { result ≡ refused_with c (refusal_number why) }
-{
-    let refusal = buffer_state::refusal_number(why);
-    let answer = FlatAnswer { refusal, count: 0 };
-    Answered { head: c, answer }
-}
+impl From<Result<usize, Refusal>> for FlatAnswer {
+    ghost from_gives = { λ given flat. flat ≡ report_out given };
 
-fn done(h: Head, count: usize) -> Answered
-    ensures { result ≡ done_with h count }
-{
-    let head = head_out(h);
-    let answer = FlatAnswer { refusal: 0, count };
-    Answered { head, answer }
-}
-
-fn changed_out(c: FlatHead, answer: Answer, h: Head) -> Answered
-    ensures { result ≡ changed_out c answer h }
-{
-    match answer {
-        Answer::Done => done(h, 0),
-        Answer::Refused(why) => refused(c, why),
-    }
-}
-
-fn counted_out(c: FlatHead, answer: Count, h: Head) -> Answered
-    ensures { result ≡ counted_out c answer h }
-{
-    match answer {
-        Count::Done(n) => done(h, n),
-        Count::Refused(why) => refused(c, why),
-    }
-}
-
-fn whole_refused(c: FlatHead, why: Refusal) -> FlatBatched
-    ensures { result ≡ whole_refused c (refusal_number why) }
-{
-    let refusal = buffer_state::refusal_number(why);
-    let answer = FlatBatch {
-        refusal,
-        stop: 0,
-        accepted: 0,
-        count: 0,
-    };
-    FlatBatched { head: c, answer }
-}
-
-fn accepted_with(h: Head, frames: usize, lines: usize, stop: Stop) -> FlatBatched
-    ensures { result ≡ accepted_with h frames lines stop }
-{
-    let head = head_out(h);
-    let stopped = buffer_state::stop_number(stop);
-    let answer = FlatBatch {
-        refusal: 0,
-        stop: stopped,
-        accepted: frames,
-        count: lines,
-    };
-    FlatBatched { head, answer }
-}
-
-fn batched_out(c: FlatHead, answer: Accepted, h: Head) -> FlatBatched
-    ensures { result ≡ batched_out c answer h }
-{
-    match answer {
-        Accepted::Done {
-            frames,
-            lines,
-            stop,
-        } => accepted_with(h, frames, lines, stop),
-        Accepted::Refused(why) => whole_refused(c, why),
-    }
-}
-
-fn report_out(answer: Count) -> FlatAnswer
-    ensures { result ≡ report_out answer }
-{
-    match answer {
-        Count::Done(n) => FlatAnswer {
-            refusal: 0,
-            count: n,
-        },
-        Count::Refused(why) => FlatAnswer {
-            refusal: buffer_state::refusal_number(why),
-            count: 0,
-        },
-    }
-}
-
-// After a refusal the reader as it came.
-fn lumped_out(c: FlatLumpReader, answer: Count, r: LumpReader) -> FlatLumped
-    ensures { result ≡ lumped_out c answer r }
-{
-    match answer {
-        Count::Done(n) => FlatLumped {
-            reader: reader_out(r),
-            answer: FlatAnswer {
-                refusal: 0,
-                count: n,
-            },
-        },
-        Count::Refused(why) => FlatLumped {
-            reader: c,
-            answer: FlatAnswer {
-                refusal: buffer_state::refusal_number(why),
+    fn from(given: Result<usize, Refusal>) -> FlatAnswer {
+        match given {
+            Ok(count) => FlatAnswer { refusal: 0, count },
+            Err(why) => FlatAnswer {
+                refusal: why.number(),
                 count: 0,
             },
-        },
+        }
     }
 }
 
-fn start_out(answer: Sought) -> FlatStart
-    ensures { result ≡ sought_out answer }
-{
-    match answer {
-        Sought::Found {
-            target,
-            flagged,
-            count,
-        } => FlatStart {
-            refusal: 0,
-            target,
-            flagged,
-            count,
-        },
-        Sought::Refused(why) => FlatStart {
-            refusal: buffer_state::refusal_number(why),
-            target: 0,
-            flagged: 0,
-            count: 0,
-        },
+impl Answered {
+    // With the head after the call; after a refusal the head as it came, bit for bit.
+    fn of(c: FlatHead, given: Result<usize, Refusal>, h: Head) -> Answered
+        ensures { result ≡ answered_out c given h }
+    {
+        Answered {
+            head: if given.is_ok() { h.into() } else { c },
+            answer: given.into(),
+        }
     }
 }
 
-fn reading_out(answer: Read) -> Reading
-    ensures { result ≡ reading_out answer }
-{
-    match answer {
-        Read::Bounded { offset, start, end } => Reading {
+impl FlatBatched {
+    // The same of a batch.
+    fn of(c: FlatHead, given: Result<Accepted, Refusal>, h: Head) -> FlatBatched
+        ensures { result ≡ batched_out c given h }
+    {
+        match given {
+            Ok(a) => FlatBatched {
+                head: h.into(),
+                answer: FlatBatch {
+                    refusal: 0,
+                    stop: buffer_state::stop_number(a.stop),
+                    accepted: a.frames,
+                    count: a.lines,
+                },
+            },
+            Err(why) => FlatBatched {
+                head: c,
+                answer: FlatBatch {
+                    refusal: why.number(),
+                    stop: 0,
+                    accepted: 0,
+                    count: 0,
+                },
+            },
+        }
+    }
+}
+
+impl FlatLumped {
+    // With the reader after the lump; after a refusal the reader as it came.
+    fn of(c: FlatLumpReader, given: Result<usize, Refusal>, r: LumpReader) -> FlatLumped
+        ensures { result ≡ lumped_out c given r }
+    {
+        FlatLumped {
+            reader: if given.is_ok() { r.into() } else { c },
+            answer: given.into(),
+        }
+    }
+}
+
+impl From<Result<Start, Refusal>> for FlatStart {
+    ghost from_gives = { λ given flat. flat ≡ start_out given };
+
+    fn from(given: Result<Start, Refusal>) -> FlatStart {
+        match given {
+            Ok(s) => FlatStart {
+                refusal: 0,
+                target: s.target,
+                flagged: s.flagged,
+                count: s.count,
+            },
+            Err(why) => FlatStart {
+                refusal: why.number(),
+                target: 0,
+                flagged: 0,
+                count: 0,
+            },
+        }
+    }
+}
+
+impl From<Result<buffer_state::Reading, Refusal>> for Reading {
+    ghost from_gives = { λ given flat. flat ≡ reading_out given };
+
+    fn from(given: Result<buffer_state::Reading, Refusal>) -> Reading {
+        let none = Reading {
             refusal: 0,
-            bounded: 1,
-            offset,
-            start,
-            end,
-        },
-        Read::Unbounded { offset, start } => Reading {
-            refusal: 0,
-            bounded: 0,
-            offset,
-            start,
-            end: 0.0,
-        },
-        Read::Refused(why) => Reading {
-            refusal: buffer_state::refusal_number(why),
             bounded: 0,
             offset: 0.0,
             start: 0.0,
             end: 0.0,
-        },
+        };
+        match given {
+            Ok(r) => match r.end {
+                WindowEnd::Unbounded => Reading {
+                    offset: r.offset,
+                    start: r.start,
+                    ..none
+                },
+                WindowEnd::At(end) => Reading {
+                    bounded: 1,
+                    offset: r.offset,
+                    start: r.start,
+                    end,
+                    ..none
+                },
+            },
+            Err(why) => Reading {
+                refusal: why.number(),
+                ..none
+            },
+        }
     }
 }
 
@@ -763,14 +681,17 @@ pub fn galumper_size() -> usize
 
 // A buffer from a lent list of kinds: it clears the arrays. Refused, it touches nothing, and its head is of zeros.
 pub fn galumper_lent_create(kinds: &[u8], times: &mut Times, tags: &mut Tags) -> Answered
-    ensures answer { result ≡ created_out (create_answer kinds.now) }
+    ensures answer { result ≡ created_out (create kinds.now) }
     ensures times { times.new ≡ times_created (create kinds.now) times.old }
     ensures tags { tags.new ≡ tags_created (create kinds.now) tags.old }
 {
-    let r = settings::create(kinds, times, tags);
-    let answer = r.answer;
-    let h = r.head;
-    changed_out(head_out(h), answer, h)
+    match settings::create(kinds, times, tags) {
+        Ok(h) => Answered::of(h.into(), Ok(0), h),
+        Err(why) => {
+            let none = settings::no_head();
+            Answered::of(none.into(), Err(why), none)
+        }
+    }
 }
 
 // Append one frame.
@@ -786,11 +707,9 @@ pub fn galumper_lent_append(
     ensures tags { tags.new ≡ tags_after (append_flat (length fates.old) f c times.old tags.old) tags.old }
     ensures lines { fates.new ≡ list_after (append_flat (length fates.old) f c times.old tags.old) fates.old }
 {
-    let h = head_in(c);
-    let r = append::append(h, offered_in(f), times, tags, fates);
-    let answer = r.answer;
-    let k = r.head;
-    counted_out(c, answer, k)
+    let mut h = Head::from(c);
+    let given = append::append(&mut h, f.into(), times, tags, fates);
+    Answered::of(c, given, h)
 }
 
 // Append up to 64 frames, as rows of the numbers that reading a segment lists.
@@ -806,11 +725,9 @@ pub fn galumper_lent_append_batch(
     ensures tags { tags.new ≡ tags_after (outcome_of (batch_flat (length fates.old) frames.now c times.old tags.old)) tags.old }
     ensures lines { fates.new ≡ list_after (outcome_of (batch_flat (length fates.old) frames.now c times.old tags.old)) fates.old }
 {
-    let h = head_in(c);
-    let r = batch::append_batch(h, frames, times, tags, fates);
-    let answer = r.answer;
-    let k = r.head;
-    batched_out(c, answer, k)
+    let mut h = Head::from(c);
+    let given = batch::append_batch(&mut h, frames, times, tags, fates);
+    FlatBatched::of(c, given, h)
 }
 
 // Remove a stretch of time.
@@ -827,54 +744,46 @@ pub fn galumper_lent_remove(
     ensures tags { tags.new ≡ tags_after (remove_flat (length fates.old) start end c times.old tags.old) tags.old }
     ensures lines { fates.new ≡ list_after (remove_flat (length fates.old) start end c times.old tags.old) fates.old }
 {
-    let h = head_in(c);
-    let r = remove::remove(h, start, end, times, tags, fates);
-    let answer = r.answer;
-    let k = r.head;
-    counted_out(c, answer, k)
+    let mut h = Head::from(c);
+    let given = remove::remove(&mut h, start, end, times, tags, fates);
+    Answered::of(c, given, h)
 }
 
 pub fn galumper_lent_abort(c: FlatHead, times: &Times, tags: &Tags) -> Answered
-    ensures { result ≡ handed_back c (abort_answer (head_in c) times.now tags.now) }
+    ensures { result ≡ handed_back c (abort_result (head_in c) times.now tags.now) }
 {
-    let h = head_in(c);
-    let r = settings::abort(h, times, tags);
-    let answer = r.answer;
-    let k = r.head;
-    changed_out(c, answer, k)
+    let mut h = Head::from(c);
+    let given = settings::abort(&mut h, times, tags);
+    Answered::of(c, given.and(Ok(0)), h)
 }
 
 fn with_mode(c: FlatHead, times: &Times, tags: &Tags, mode: Mode) -> Answered
-    ensures { result ≡ handed_back c (mode_answer mode (head_in c) times.now tags.now) }
+    ensures { result ≡ handed_back c (mode_result mode (head_in c) times.now tags.now) }
 {
-    let h = head_in(c);
-    let r = settings::set_mode(h, times, tags, mode);
-    let answer = r.answer;
-    let k = r.head;
-    changed_out(c, answer, k)
+    let mut h = Head::from(c);
+    let given = settings::set_mode(&mut h, times, tags, mode);
+    Answered::of(c, given.and(Ok(0)), h)
 }
 
 // A call for each mode, so that no other can be passed.
 pub fn galumper_lent_set_segments(c: FlatHead, times: &Times, tags: &Tags) -> Answered
-    ensures { result ≡ handed_back c (mode_answer Segments (head_in c) times.now tags.now) }
+    ensures { result ≡ handed_back c (mode_result Segments (head_in c) times.now tags.now) }
 {
     with_mode(c, times, tags, Mode::Segments)
 }
 
 pub fn galumper_lent_set_sequence(c: FlatHead, times: &Times, tags: &Tags) -> Answered
-    ensures { result ≡ handed_back c (mode_answer Sequence (head_in c) times.now tags.now) }
+    ensures { result ≡ handed_back c (mode_result Sequence (head_in c) times.now tags.now) }
 {
     with_mode(c, times, tags, Mode::Sequence)
 }
 
 pub fn galumper_lent_set_offset(c: FlatHead, times: &Times, tags: &Tags, seconds: f64) -> Answered
-    ensures { result ≡ handed_back c (offset_answer seconds (head_in c) times.now tags.now) }
+    ensures { result ≡ handed_back c (offset_result seconds (head_in c) times.now tags.now) }
 {
-    let h = head_in(c);
-    let r = settings::set_offset(h, times, tags, seconds);
-    let answer = r.answer;
-    let k = r.head;
-    changed_out(c, answer, k)
+    let mut h = Head::from(c);
+    let given = settings::set_offset(&mut h, times, tags, seconds);
+    Answered::of(c, given.and(Ok(0)), h)
 }
 
 pub fn galumper_lent_set_window_start(
@@ -883,13 +792,11 @@ pub fn galumper_lent_set_window_start(
     tags: &Tags,
     seconds: f64,
 ) -> Answered
-    ensures { result ≡ handed_back c (window_start_answer seconds (head_in c) times.now tags.now) }
+    ensures { result ≡ handed_back c (window_start_result seconds (head_in c) times.now tags.now) }
 {
-    let h = head_in(c);
-    let r = settings::set_window_start(h, times, tags, seconds);
-    let answer = r.answer;
-    let k = r.head;
-    changed_out(c, answer, k)
+    let mut h = Head::from(c);
+    let given = settings::set_window_start(&mut h, times, tags, seconds);
+    Answered::of(c, given.and(Ok(0)), h)
 }
 
 pub fn galumper_lent_set_window_end(
@@ -898,20 +805,17 @@ pub fn galumper_lent_set_window_end(
     tags: &Tags,
     seconds: f64,
 ) -> Answered
-    ensures { result ≡ handed_back c (window_end_answer seconds (head_in c) times.now tags.now) }
+    ensures { result ≡ handed_back c (window_end_result seconds (head_in c) times.now tags.now) }
 {
-    let h = head_in(c);
-    let r = settings::set_window_end(h, times, tags, seconds);
-    let answer = r.answer;
-    let k = r.head;
-    changed_out(c, answer, k)
+    let mut h = Head::from(c);
+    let given = settings::set_window_end(&mut h, times, tags, seconds);
+    Answered::of(c, given.and(Ok(0)), h)
 }
 
 pub fn galumper_lent_read_settings(c: FlatHead, times: &Times, tags: &Tags) -> Reading
-    ensures { result ≡ reading_out (settings_answer (head_in c) times.now tags.now) }
+    ensures { result ≡ reading_out (settings_result (head_in c) times.now tags.now) }
 {
-    let h = head_in(c);
-    reading_out(settings::read_settings(h, times, tags))
+    settings::read_settings(c.into(), times, tags).into()
 }
 
 // A track's ranges.
@@ -925,8 +829,7 @@ pub fn galumper_lent_track_ranges(
     ensures value { result ≡ report_out (range_count (track_ranges_result (length list.old) track (head_in c) times.now tags.now)) }
     ensures list_after { list.new ≡ ranges_after (track_ranges_result (length list.old) track (head_in c) times.now tags.now) list.old }
 {
-    let h = head_in(c);
-    report_out(ranges::track_ranges(h, times, tags, track, list))
+    ranges::track_ranges(c.into(), times, tags, track, list).into()
 }
 
 // The ranges common to all tracks.
@@ -939,8 +842,7 @@ pub fn galumper_lent_common_ranges(
     ensures value { result ≡ report_out (range_count (common_ranges_result (length list.old) (head_in c) times.now tags.now)) }
     ensures list_after { list.new ≡ ranges_after (common_ranges_result (length list.old) (head_in c) times.now tags.now) list.old }
 {
-    let h = head_in(c);
-    report_out(ranges::common_ranges(h, times, tags, list))
+    ranges::common_ranges(c.into(), times, tags, list).into()
 }
 
 // How many frames the walk of a track's ranges takes where so many places are lent, also where these are too few for the ranges.
@@ -951,10 +853,9 @@ pub fn galumper_lent_walked(
     track: u32,
     room: usize,
 ) -> FlatAnswer
-    ensures { result ≡ report_out (taken_count (walked_result room track (head_in c) times.now tags.now)) }
+    ensures { result ≡ report_out (walked_result room track (head_in c) times.now tags.now) }
 {
-    let h = head_in(c);
-    report_out(ranges::walked(h, times, tags, track, room))
+    ranges::walked(c.into(), times, tags, track, room).into()
 }
 
 // Where to start decoding for a track and an instant in microseconds. The frames to decode are never more than the track has.
@@ -968,8 +869,7 @@ pub fn galumper_lent_seek(
     ensures value { result ≡ start_out (seek_result track instant (head_in c) times.now tags.now) }
     ensures count_bound { result.count ≤ stored_on track (buffer_of (state_at (head_in c) times.now tags.now)) }
 {
-    let h = head_in(c);
-    start_out(seek::seek(h, times, tags, track, instant))
+    seek::seek(c.into(), times, tags, track, instant).into()
 }
 
 // What to feed a decoder, by where it stands: in the initialization bytes, all of them, or in the segment, the part from a place up to
@@ -1002,15 +902,14 @@ pub fn galumper_lent_list_segment(
     ensures value { result ≡ report_out (row_count (list_segment (segment_track_in of) (length list.old) segment.now)) }
     ensures list_after { list.new ≡ rows_after (list_segment (segment_track_in of) (length list.old) segment.now) list.old }
 {
-    let track = segment_track_in(of);
-    report_out(segment_reader::list_segment(track, segment, list))
+    segment_reader::list_segment(of.into(), segment, list).into()
 }
 
 // A reader to which no byte has come.
 pub fn galumper_fresh_reader() -> FlatLumpReader
     ensures { result ≡ reader_out (reader_of fresh) }
 {
-    reader_out(lumps::fresh_reader())
+    lumps::fresh_reader().into()
 }
 
 // A lump of a segment after which more comes.
@@ -1018,11 +917,9 @@ pub fn galumper_lent_take_lump(c: FlatLumpReader, buffer: &mut [u8], lump: &[u8]
     ensures answer { result ≡ lump_out c (more_result (reader_in c) buffer.old lump.now) }
     ensures buffer { buffer.new ≡ buffer_after (more_result (reader_in c) buffer.old lump.now) buffer.old }
 {
-    let reader = reader_in(c);
-    let r = lumps::take_more(reader, buffer, lump);
-    let answer = r.answer;
-    let q = r.reader;
-    lumped_out(c, answer, q)
+    let mut reader = LumpReader::from(c);
+    let given = lumps::take_more(&mut reader, buffer, lump);
+    FlatLumped::of(c, given, reader)
 }
 
 // The last lump of a segment.
@@ -1036,10 +933,7 @@ pub fn galumper_lent_take_last(
     ensures answer { result ≡ lump_out c (last_flat of (length list.old) c buffer.now lump.now) }
     ensures frames { list.new ≡ frames_after (last_flat of (length list.old) c buffer.now lump.now) list.old }
 {
-    let track = segment_track_in(of);
-    let reader = reader_in(c);
-    let r = lumps::take_last(track, reader, buffer, lump, list);
-    let answer = r.answer;
-    let q = r.reader;
-    lumped_out(c, answer, q)
+    let mut reader = LumpReader::from(c);
+    let given = lumps::take_last(of.into(), &mut reader, buffer, lump, list);
+    FlatLumped::of(c, given, reader)
 }

@@ -1,6 +1,7 @@
 -- The claim of demand 3 for the exported calls: every history of them is a history of the library's own, read in the account's words,
 -- so that the claim of the crate account holds of it. Every list of exported calls has a history, no exported call asks anything of its
 -- caller, and the running code meets the contracts of which a history is made.
+use Rattle.std.specs.Prelude.{Ok, Err}
 use mathlib.Core.Path.{◌≡◌, refl, sym, ap, subst, ◌∙◌}
 use mathlib.Core.List.{List, [], ◌∷◌, map}
 use Prim.Native.Nat.{ℕ}
@@ -10,27 +11,20 @@ use lib.IntN.{ℤ}
 use lib.Ieee.{Float}
 use lib.ListN.{length}
 use Rattle.buffer_state.specs.declared.Accepted.{Accepted}
-use Rattle.buffer_state.specs.declared.Answer as Code
-use Rattle.buffer_state.specs.declared.Answer.TheVariants as Said
-use Rattle.buffer_state.specs.declared.Batched.{Batched}
-use Rattle.buffer_state.specs.declared.Changed.{Changed}
-use Rattle.buffer_state.specs.declared.Count.{Count}
-use Rattle.buffer_state.specs.declared.Counted.{Counted}
 use Rattle.buffer_state.specs.declared.Mode.TheVariants.{Segments, Sequence}
-use Rattle.buffer_state.specs.declared.Read.{Read}
-use Rattle.buffer_state.specs.declared.Sought.{Sought}
-use Rattle.buffer_state.specs.declared.Sought.TheVariants.{Found, Refused}
-use Rattle.buffer_state.specs.Answers.{changed, zero_head, create_answer, times_created, tags_created, times_after, tags_after, list_after, outcome_of, abort_answer, mode_answer, offset_answer, window_start_answer, window_end_answer, settings_answer, range_count, ranges_after, track_ranges_result, common_ranges_result, taken_count, walked_result, seek_result}
+use Rattle.buffer_state.specs.Answers.{created, times_created, tags_created, times_after, tags_after, list_after, outcome_of, abort_result, mode_result, offset_result, window_start_result, window_end_result, settings_result, range_count, ranges_after, track_ranges_result, common_ranges_result, walked_result, seek_result}
 use Rattle.buffer_state.specs.Buffer.{Buffer, fresh}
 use Rattle.buffer_state.specs.Layout.{buffer_of}
 use Rattle.buffer_state.specs.Lent.{Lent, state_at}
-use Rattle.buffer_state.specs.Refusals.{CallResult, done}
-use Rattle.buffer_state.specs.Run.{Entry, stored_on}
-use Rattle.buffer_state.specs.Seek.{Start}
+use Rattle.buffer_state.specs.Refusals.{CallResult, stop_number}
+use Rattle.buffer_state.specs.declared.Head.{Head}
+use Rattle.buffer_state.specs.declared.Reading as Settings
+use Rattle.buffer_state.specs.Run.{Answer, taken, settings, decoding, Entry, stored_on}
+use Rattle.buffer_state.specs.declared.Start.{Start}
 use Rattle.buffer_state.specs.Settings.{create}
 use Rattle.seek.specs.Places.{Within}
 use Rattle.seek.proofs.CallLaws.{seek-within}
-use Rattle.account.specs.Made.{Listed, Joined, lines_of, joined_of, ranges_of, change_of, reading_of, walked_of, sought_of, result_of, entries}
+use Rattle.account.specs.Made.{Listed, told, lines_of, joined_of, ranges_of, done_of, result_of, entries}
 use Rattle.account.specs.History as Account
 use Rattle.account.proofs.Claim.{every-history, lend, lend_mut, two, three, four}
 use Rattle.galumper.specs.declared.Answered.{Answered}
@@ -39,12 +33,14 @@ use Rattle.galumper.specs.declared.FlatBatched.{FlatBatched}
 use Rattle.galumper.specs.declared.FlatHead.{FlatHead}
 use Rattle.galumper.specs.declared.FlatOffered.{FlatOffered}
 use Rattle.galumper.specs.declared.FlatStart.{FlatStart}
+use Rattle.galumper.specs.declared.Reading.{Reading}
 use Rattle.galumper.specs.Calls.{outcome_out, handed_back, created_out, append_flat, remove_flat, batch_flat, batch_out, report_out, start_out, reading_out}
 use Rattle.galumper.specs.Flat.{head_in, head_out, offered_in}
 use Rattle.galumper.proofs.CallLaws.{start-few}
-use Rattle.galumper_account.specs.Told.{Ask, append, remove, abort, set_segments, set_sequence, set_offset, set_window_start, set_window_end, read_settings, track_ranges, common_ranges, batch, walked, seek, Got, Told, numbers_in, count_of, accepted_of, answer_of, read_of, start_of, given, back, made}
+use Rattle.galumper_account.specs.Told.{Ask, append, remove, abort, set_segments, set_sequence, set_offset, set_window_start, set_window_end, read_settings, track_ranges, common_ranges, batch, walked, seek, Got, Told, numbers_in, by_number, count_of, accepted_of, read_of, start_of, given, back, made}
 use Rattle.galumper_account.specs.History.{Held, lent_in, From, none, by_append, by_remove, by_abort, by_segments, by_sequence, by_offset, by_window_start, by_window_end, by_reading, by_track_ranges, by_common_ranges, by_batch, by_walk, by_seek, IsHistory, from, result_numbers, Claim, Happens}
-use Rattle.galumper_account.proofs.ReadLaws.{count_number, accepted_numbers, taken_numbers, sought_numbers, answer_number, read_number, Reports, report-read, Starts, start-read, Reads, reading-read, IsSound, Counts, Accepts, Changes}
+use Rattle.galumper_account.specs.Told as Numbers
+use Rattle.galumper_account.proofs.ReadLaws.{numbers, number, Reports, report-read, Starts, start-read, Reads, reading-read, IsSound, Counts, Accepts, Changes}
 use Rattle.galumper_account.proofs.StepLaws.{creation, batching, appending, removing, aborting, mode-setting, offset-setting, window-start-setting, window_end-setting}
 use Rattle.galumper.proofs.galumper_lent_create.Reads as Create
 use Rattle.galumper.proofs.galumper_lent_append.Reads as Append
@@ -94,38 +90,14 @@ use Rattle.galumper.proofs.galumper_lent_seek.Met as SeekMet
 
 -- ---- the numbers of an answer are those of its result
 
--- those of a call that is no batch, no walk and no seek
-abbrev plain : ℕ → List ℕ
-plain n = n ∷ 0 ∷ []
+told-numbers : {R : Type 0} (say : R → Answer) (more : R → ℕ) → ((x : R) → result_numbers (Ok (say x)) ≡ 0 ∷ more x ∷ [])
+    → (r : CallResult R) → result_numbers (told say r) ≡ numbers more r
+told-numbers say more e (Err why) = refl
+told-numbers say more e (Ok x) = e x
 
-lines-number : (l : Listed (List ℕ)) (n : Count) → result_numbers (lines_of l n) ≡ plain (count_number n)
-lines-number l (Count.Done n) = refl
-lines-number l (Count.Refused why) = refl
-
-joined_numbers : (l : Joined) (a : Accepted) → result_numbers (joined_of l a) ≡ accepted_numbers a
-joined_numbers l (Accepted.Done n lines stop) = refl
-joined_numbers l (Accepted.Refused why) = refl
-
-ranges-number : (l : Listed (List ℤ)) (n : Count) → result_numbers (ranges_of l n) ≡ plain (count_number n)
-ranges-number l (Count.Done n) = refl
-ranges-number l (Count.Refused why) = refl
-
-walked-numbers : (n : Count) → result_numbers (walked_of n) ≡ taken_numbers n
-walked-numbers (Count.Done n) = refl
-walked-numbers (Count.Refused why) = refl
-
-sought_numbers_lem : (a : Sought) → result_numbers (sought_of a) ≡ sought_numbers a
-sought_numbers_lem (Found target flagged count) = refl
-sought_numbers_lem (Refused why) = refl
-
-change-number : (a : Code.Answer) → result_numbers (change_of a) ≡ plain (answer_number a)
-change-number Said.Done = refl
-change-number (Said.Refused why) = refl
-
-read_number_lem : (r : Read) → result_numbers (reading_of r) ≡ plain (read_number r)
-read_number_lem (Read.Bounded offset start end) = refl
-read_number_lem (Read.Unbounded offset start) = refl
-read_number_lem (Read.Refused why) = refl
+told-number : {R : Type 0} (say : R → Answer) → ((x : R) → result_numbers (Ok (say x)) ≡ 0 ∷ 0 ∷ []) → (r : CallResult R) → result_numbers (told say r) ≡ number r
+told-number say e (Err why) = refl
+told-number say e (Ok x) = e x
 
 -- ---- every history of exported calls is one of the library's
 
@@ -152,90 +124,104 @@ one number step rest = record {
 }
 
 -- the numbers that a call answered, by what the library's call answers
-counting : {n : Counted} (r : Answered) (l : Listed (List ℕ)) → Counts n r → plain r.answer.refusal ≡ result_numbers (lines_of l (count_of r.answer))
-counting r l o = ap plain (o.number ∙ sym (ap (λ (n : Counted). count_number n.answer) o.same)) ∙ sym (lines-number l (count_of r.answer))
+counting : {n : CallResult ℕ} {h : Head} (r : Answered) (after : List (List ℕ)) → Counts n h r
+    → r.answer.refusal ∷ 0 ∷ [] ≡ result_numbers (lines_of (record { answer = count_of r.answer; after = after }))
+counting r after o = o.number ∙ sym (ap number o.same) ∙ sym (told-number _ (λ n. refl) (count_of r.answer))
 
-accepting : {n : Batched} (r : FlatBatched) (l : Joined) → Accepts n r → r.answer.refusal ∷ r.answer.stop ∷ [] ≡ result_numbers (joined_of l (accepted_of r.answer))
-accepting r l o = o.numbers ∙ sym (ap (λ (n : Batched). accepted_numbers n.answer) o.same) ∙ sym (joined_numbers l (accepted_of r.answer))
+accepting : {n : CallResult Accepted} {h : Head} (r : FlatBatched) (after : List (List ℕ)) → Accepts n h r
+    → r.answer.refusal ∷ r.answer.stop ∷ [] ≡ result_numbers (joined_of (record { answer = accepted_of r.answer; after = after }))
+accepting r after o =
+    let more : Accepted → ℕ = λ a. stop_number a.stop in
+    o.numbers ∙ sym (ap (numbers more) o.same) ∙ sym (told-numbers _ more (λ a. refl) (accepted_of r.answer))
 
-reporting : {n : Count} (r : FlatAnswer) (l : Listed (List ℤ)) → Reports n r → plain r.refusal ≡ result_numbers (ranges_of l (count_of r))
-reporting r l o = ap plain (o.number ∙ sym (ap count_number o.same)) ∙ sym (ranges-number l (count_of r))
+reporting : {n : CallResult ℕ} (r : FlatAnswer) (after : List (List ℤ)) → Reports n r
+    → r.refusal ∷ 0 ∷ [] ≡ result_numbers (ranges_of (record { answer = count_of r; after = after }))
+reporting r after o = o.number ∙ sym (ap number o.same) ∙ sym (told-number _ (λ n. refl) (count_of r))
 
-walking : {n : Count} (r : FlatAnswer) → Reports n r → r.refusal ∷ r.count ∷ [] ≡ result_numbers (walked_of (count_of r))
-walking r o = o.numbers ∙ sym (ap taken_numbers o.same) ∙ sym (walked-numbers (count_of r))
+walking : {n : CallResult ℕ} (r : FlatAnswer) → Reports n r → r.refusal ∷ r.count ∷ [] ≡ result_numbers (told taken (count_of r))
+walking r o = o.numbers ∙ sym (ap (numbers (λ (k : ℕ). k)) o.same) ∙ sym (told-numbers taken (λ k. k) (λ n. refl) (count_of r))
 
-seeking : {n : CallResult Start} (r : FlatStart) → Starts n r → r.refusal ∷ r.count ∷ [] ≡ result_numbers (sought_of (start_of r))
-seeking r o = o.numbers ∙ sym (ap sought_numbers o.same) ∙ sym (sought_numbers_lem (start_of r))
+seeking : {n : CallResult Start} (r : FlatStart) → Starts n r → r.refusal ∷ r.count ∷ [] ≡ result_numbers (told decoding (start_of r))
+seeking r o =
+    let more : Start → ℕ = λ s. s.count in
+    o.numbers ∙ sym (ap (numbers more) o.same) ∙ sym (told-numbers decoding more (λ s. refl) (start_of r))
 
-changing : {n : Changed} (r : Answered) → Changes n r → plain r.answer.refusal ≡ result_numbers (change_of (answer_of r.answer))
-changing r o = ap plain (o.number ∙ sym (ap (λ (n : Changed). answer_number n.answer) o.same)) ∙ sym (change-number (answer_of r.answer))
+reading : {n : CallResult Settings.Reading} (r : Reading) → Reads n r → r.refusal ∷ 0 ∷ [] ≡ result_numbers (told settings (read_of r))
+reading r o = o.number ∙ sym (ap number o.same) ∙ sym (told-number settings (λ x. refl) (read_of r))
+
+changing : {n : CallResult (Unit {0})} {h : Head} (r : Answered) → Changes n h r → r.answer.refusal ∷ 0 ∷ [] ≡ result_numbers (done_of (Numbers.done_of r.answer))
+changing r o = o.number ∙ sym (ap number o.same) ∙ sym (told-number _ (λ u. refl) (Numbers.done_of r.answer))
+
+-- some reference to the head that a flat head is read as
+abbrev lend_head : FlatHead → MutBor Head
+lend_head c = lend_mut (head_in c)
 
 follows : {c t : Held} {ms : List Told} → IsSound c.head → From c ms t → Follows c ms t
 follows s none = record { steps = Account.none; numbers = refl; laid = s.laid }
 follows {c} s (by_append f times tags lent r ts gs after κs h k) =
     let o = appending c.head c.times c.tags s r (length lent.now) f h.0 in
-    one (counting r (record { answer = count_of r.answer; after = after }) o)
-    (λ rest. Account.by_append (offered_in f) times tags lent (record { answer = count_of r.answer; head = head_in r.head }) ts gs after κs (o.same, h.1) rest)
+    one (counting r after o)
+    (λ rest. Account.by_append (lend_head c.head) (offered_in f) times tags lent (count_of r.answer) (head_in r.head) ts gs after ([], κs) (o.same, (o.head, h.1)) rest)
     (follows o.sound k)
 follows {c} s (by_remove start end times tags lent r ts gs after κs h k) =
     let o = removing c.head c.times c.tags s r (length lent.now) start end h.0 in
-    one (counting r (record { answer = count_of r.answer; after = after }) o)
-    (λ rest. Account.by_remove start end times tags lent (record { answer = count_of r.answer; head = head_in r.head }) ts gs after κs (o.same, h.1) rest)
+    one (counting r after o)
+    (λ rest. Account.by_remove (lend_head c.head) start end times tags lent (count_of r.answer) (head_in r.head) ts gs after ([], κs) (o.same, (o.head, h.1)) rest)
     (follows o.sound k)
 follows {c} s (by_abort times tags r κs h k) =
     let o = aborting c.head c.times c.tags s r h in
     one (changing r o)
-    (λ rest. Account.by_abort times tags (record { answer = answer_of r.answer; head = head_in r.head }) κs o.same rest)
+    (λ rest. Account.by_abort (lend_head c.head) times tags (Numbers.done_of r.answer) (head_in r.head) ([], κs) (o.same, o.head) rest)
     (follows o.sound k)
 follows {c} s (by_segments times tags r κs h k) =
     let o = mode-setting c.head c.times c.tags s r Segments h in
     one (changing r o)
-    (λ rest. Account.by_mode Segments times tags (record { answer = answer_of r.answer; head = head_in r.head }) κs o.same rest)
+    (λ rest. Account.by_mode (lend_head c.head) Segments times tags (Numbers.done_of r.answer) (head_in r.head) ([], κs) (o.same, o.head) rest)
     (follows o.sound k)
 follows {c} s (by_sequence times tags r κs h k) =
     let o = mode-setting c.head c.times c.tags s r Sequence h in
     one (changing r o)
-    (λ rest. Account.by_mode Sequence times tags (record { answer = answer_of r.answer; head = head_in r.head }) κs o.same rest)
+    (λ rest. Account.by_mode (lend_head c.head) Sequence times tags (Numbers.done_of r.answer) (head_in r.head) ([], κs) (o.same, o.head) rest)
     (follows o.sound k)
 follows {c} s (by_offset x f times tags r κs h k) =
     let o = offset-setting c.head c.times c.tags s r x f h in
     one (changing r o)
-    (λ rest. Account.by_offset x times tags (record { answer = answer_of r.answer; head = head_in r.head }) κs o.same rest)
+    (λ rest. Account.by_offset (lend_head c.head) x times tags (Numbers.done_of r.answer) (head_in r.head) ([], κs) (o.same, o.head) rest)
     (follows o.sound k)
 follows {c} s (by_window_start x f times tags r κs h k) =
     let o = window-start-setting c.head c.times c.tags s r x f h in
     one (changing r o)
-    (λ rest. Account.by_window_start x times tags (record { answer = answer_of r.answer; head = head_in r.head }) κs o.same rest)
+    (λ rest. Account.by_window_start (lend_head c.head) x times tags (Numbers.done_of r.answer) (head_in r.head) ([], κs) (o.same, o.head) rest)
     (follows o.sound k)
 follows {c} s (by_window_end x f times tags r κs h k) =
     let o = window_end-setting c.head c.times c.tags s r x f h in
     one (changing r o)
-    (λ rest. Account.by_window_end x times tags (record { answer = answer_of r.answer; head = head_in r.head }) κs o.same rest)
+    (λ rest. Account.by_window_end (lend_head c.head) x times tags (Numbers.done_of r.answer) (head_in r.head) ([], κs) (o.same, o.head) rest)
     (follows o.sound k)
 follows {c} s (by_reading times tags r κs h k) =
-    let o : Reads (settings_answer (head_in c.head) c.times c.tags) r = rw h (reading-read _) in
-    one (ap plain (o.number ∙ sym (ap read_number o.same)) ∙ sym (read_number_lem (read_of r)))
+    let o : Reads (settings_result (head_in c.head) c.times c.tags) r = rw h (reading-read _) in
+    one (reading r o)
     (λ rest. Account.by_reading times tags (read_of r) κs o.same rest)
     (follows s k)
 follows {c} s (by_track_ranges track times tags lent r after κs h k) =
     let x = track_ranges_result (length lent.now) track (head_in c.head) c.times c.tags in
     let o : Reports (range_count x) r = rw h.0 (report-read (range_count x)) in
-    one (reporting r (record { answer = count_of r; after = after }) o)
+    one (reporting r after o)
     (λ rest. Account.by_track_ranges track times tags lent (count_of r) after κs (record { answer = o.same; list = h.1 }) rest)
     (follows s k)
 follows {c} s (by_common_ranges times tags lent r after κs h k) =
     let x = common_ranges_result (length lent.now) (head_in c.head) c.times c.tags in
     let o : Reports (range_count x) r = rw h.0 (report-read (range_count x)) in
-    one (reporting r (record { answer = count_of r; after = after }) o)
+    one (reporting r after o)
     (λ rest. Account.by_common_ranges times tags lent (count_of r) after κs (record { answer = o.same; list = h.1 }) rest)
     (follows s k)
 follows {c} s (by_batch rows times tags lent r ts gs after κs h k) =
     let o = batching c.head c.times c.tags s r (length lent.now) rows.now h.0 in
-    one (accepting r (record { answer = accepted_of r.answer; after = after }) o)
-    (λ rest. Account.by_batch rows times tags lent (record { answer = accepted_of r.answer; head = head_in r.head }) ts gs after κs (o.same, h.1) rest)
+    one (accepting r after o)
+    (λ rest. Account.by_batch (lend_head c.head) rows times tags lent (accepted_of r.answer) (head_in r.head) ts gs after ([], κs) (o.same, (o.head, h.1)) rest)
     (follows o.sound k)
 follows {c} s (by_walk track room times tags r κs h k) =
-    let n = taken_count (walked_result room track (head_in c.head) c.times c.tags) in
+    let n = walked_result room track (head_in c.head) c.times c.tags in
     let o : Reports n r = rw h (report-read n) in
     one (walking r o)
     (λ rest. Account.by_walk track room times tags (count_of r) κs o.same rest)
@@ -255,8 +241,9 @@ pub every-exported-history : {kinds : List ℕ} {ms : List Told} {t : Held} → 
 every-exported-history {kinds} {ms} {t} (from lent times tags r ts gs κs h accepted k) =
     let o = creation kinds r h.0 in
     let f = follows o.sound k in
-    let done : answer_of r.answer ≡ Said.Done = ap (λ (n : ℕ). answer_of (record { refusal = n; count = r.answer.count })) accepted in
-    let claim = every-history (Account.from lent times tags (record { answer = answer_of r.answer; head = head_in r.head }) ts gs κs (o.same, h.1) done f.steps) in
+    let head = head_in r.head in
+    let done : by_number r.answer.refusal head ≡ Ok head = ap (λ (n : ℕ). by_number n head) accepted in
+    let claim = every-history (Account.from lent times tags (by_number r.answer.refusal head) head ts gs κs (o.same, h.1) done f.steps) in
     record {
       claim = claim;
       numbers = f.numbers ∙ ap (map (λ (e : Entry). result_numbers e.result)) claim.results;
@@ -303,25 +290,25 @@ onward c (remove start end l ∷ asks) =
     let d : Held = record { head = r.head; times = times_after x c.times; tags = tags_after x c.tags } in
     first {d = d} (λ ms t k. by_remove start end (lend_mut c.times) (lend_mut c.tags) (lend_mut l) r d.times d.tags (list_after x l) three (refl, (refl, (refl, refl))) k) (onward d asks)
 onward c (abort ∷ asks) =
-    let r = handed_back c.head (abort_answer (head_in c.head) c.times c.tags) in
+    let r = handed_back c.head (abort_result (head_in c.head) c.times c.tags) in
     first {d = under c r} (λ ms t k. by_abort (lend c.times) (lend c.tags) r two refl k) (onward (under c r) asks)
 onward c (set_segments ∷ asks) =
-    let r = handed_back c.head (mode_answer Segments (head_in c.head) c.times c.tags) in
+    let r = handed_back c.head (mode_result Segments (head_in c.head) c.times c.tags) in
     first {d = under c r} (λ ms t k. by_segments (lend c.times) (lend c.tags) r two refl k) (onward (under c r) asks)
 onward c (set_sequence ∷ asks) =
-    let r = handed_back c.head (mode_answer Sequence (head_in c.head) c.times c.tags) in
+    let r = handed_back c.head (mode_result Sequence (head_in c.head) c.times c.tags) in
     first {d = under c r} (λ ms t k. by_sequence (lend c.times) (lend c.tags) r two refl k) (onward (under c r) asks)
 onward c (set_offset x f ∷ asks) =
-    let r = handed_back c.head (offset_answer x (head_in c.head) c.times c.tags) in
+    let r = handed_back c.head (offset_result x (head_in c.head) c.times c.tags) in
     first {d = under c r} (λ ms t k. by_offset x f (lend c.times) (lend c.tags) r two refl k) (onward (under c r) asks)
 onward c (set_window_start x f ∷ asks) =
-    let r = handed_back c.head (window_start_answer x (head_in c.head) c.times c.tags) in
+    let r = handed_back c.head (window_start_result x (head_in c.head) c.times c.tags) in
     first {d = under c r} (λ ms t k. by_window_start x f (lend c.times) (lend c.tags) r two refl k) (onward (under c r) asks)
 onward c (set_window_end x f ∷ asks) =
-    let r = handed_back c.head (window_end_answer x (head_in c.head) c.times c.tags) in
+    let r = handed_back c.head (window_end_result x (head_in c.head) c.times c.tags) in
     first {d = under c r} (λ ms t k. by_window_end x f (lend c.times) (lend c.tags) r two refl k) (onward (under c r) asks)
 onward c (read_settings ∷ asks) =
-    let r = reading_out (settings_answer (head_in c.head) c.times c.tags) in
+    let r = reading_out (settings_result (head_in c.head) c.times c.tags) in
     first {d = c} (λ ms t k. by_reading (lend c.times) (lend c.tags) r two refl k) (onward c asks)
 onward c (track_ranges track l ∷ asks) =
     let x = track_ranges_result (length l) track (head_in c.head) c.times c.tags in
@@ -336,7 +323,7 @@ onward c (batch rows l ∷ asks) =
     let d : Held = record { head = r.head; times = times_after o c.times; tags = tags_after o c.tags } in
     first {d = d} (λ ms t k. by_batch (lend rows) (lend_mut c.times) (lend_mut c.tags) (lend_mut l) r d.times d.tags (list_after o l) four (refl, (refl, (refl, refl))) k) (onward d asks)
 onward c (walked track room ∷ asks) =
-    let r = report_out (taken_count (walked_result room track (head_in c.head) c.times c.tags)) in
+    let r = report_out (walked_result room track (head_in c.head) c.times c.tags) in
     first {d = c} (λ ms t k. by_walk track room (lend c.times) (lend c.tags) r two refl k) (onward c asks)
 onward c (seek track instant ∷ asks) =
     let read = head_in c.head in
@@ -345,17 +332,16 @@ onward c (seek track instant ∷ asks) =
     first {d = c} (λ ms t k. by_seek track instant (lend c.times) (lend c.tags) (start_out x) two (refl, few) k) (onward c asks)
 
 -- whatever the arrays held before the creation
-pub some-exported-history : (kinds : List ℕ) (ts : List (List ℤ)) (gs : List (List ℕ)) (asks : List Ask) → create kinds ≡ done (fresh kinds) → Happens kinds asks
-unfolding create_answer
+pub some-exported-history : (kinds : List ℕ) (ts : List (List ℤ)) (gs : List (List ℕ)) (asks : List Ask) → create kinds ≡ Ok (fresh kinds) → Happens kinds asks
 some-exported-history kinds ts gs asks made =
-    let r = created_out (create_answer kinds) in
+    let r = created_out (create kinds) in
     let o = onward (record { head = r.head; times = times_created (create kinds) ts; tags = tags_created (create kinds) gs }) asks in
     record {
       told = o.told;
       same = o.same;
       last = o.last;
       history = from (lend kinds) (lend_mut ts) (lend_mut gs) r (times_created (create kinds) ts) (tags_created (create kinds) gs) three (refl, (refl, refl))
-          (ap (λ (x : CallResult Buffer). (created_out (changed zero_head x)).answer.refusal) made) o.steps;
+          (ap (λ (x : CallResult Buffer). (created_out x).answer.refusal) made) o.steps;
     }
 
 -- ---- it has no hidden door

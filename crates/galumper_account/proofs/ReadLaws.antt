@@ -1,5 +1,6 @@
 -- What an exported call hands back, read again in the account's words, is what the library's own call answers; and the head that it
 -- hands back is laid out from the library's, whose doubles are numbers.
+use Rattle.std.specs.Prelude.{Option, None, Some, Ok, Err}
 use mathlib.Core.Path.{◌≡◌, refl, sym, ap, subst}
 use mathlib.Core.Bool.{false, cond, not, ◌||◌}
 use mathlib.Core.List.{List, [], ◌∷◌}
@@ -10,26 +11,20 @@ use lib.ListN.{length}
 use Rattle.laws.proofs.BoolLaws.{by-test}
 use Rattle.seconds.proofs.NumberLaws.{IsNumber, zero_number, quotient-number}
 use Rattle.buffer_state.specs.declared.Accepted.{Accepted}
-use Rattle.buffer_state.specs.declared.Answer.{Answer}
-use Rattle.buffer_state.specs.declared.Batched.{Batched}
-use Rattle.buffer_state.specs.declared.Changed.{Changed}
-use Rattle.buffer_state.specs.declared.Count.{Count}
-use Rattle.buffer_state.specs.declared.Counted.{Counted}
 use Rattle.buffer_state.specs.declared.Head.{Head}
-use Rattle.buffer_state.specs.declared.Read.{Read}
+use Rattle.buffer_state.specs.declared.Reading as Settings
 use Rattle.buffer_state.specs.declared.Refusal.{Refusal}
 use Rattle.buffer_state.specs.declared.Refusal.TheVariants.{IllFormed, ShortFates, NoTrack, FrameLimits, Seconds, Order, ResultLimits, Full, LastNumber, ShortList, Kinds, Malformed, LentSize, LargeFragment, NoStart}
-use Rattle.buffer_state.specs.declared.Sought.{Sought}
-use Rattle.buffer_state.specs.declared.Stop.{Stop}
-use Rattle.buffer_state.specs.declared.Stop.TheVariants.{Nothing, By}
-use Rattle.buffer_state.specs.Answers.{changed, counted, zero_head, batched, outcome_of, sought}
+use Rattle.buffer_state.specs.Answers.{zero_head, created, set_answer, head_set, line_count, head_after, batch_answer, outcome_of}
 use Rattle.buffer_state.specs.Append.{Outcome}
 use Rattle.buffer_state.specs.Batch.{Batch}
 use Rattle.buffer_state.specs.Buffer.{Buffer, fresh, fresh_settings}
 use Rattle.buffer_state.specs.Lent.{head_of, well_formed_at, on_lent}
 use Rattle.buffer_state.specs.Limits.{most_tracks, known_kind}
-use Rattle.buffer_state.specs.Refusals.{CallResult, refused, done, refusal_number, stop_number}
-use Rattle.buffer_state.specs.Seek.{Start}
+use Rattle.buffer_state.specs.Refusals.{CallResult, refusal_number, stop_number}
+use Rattle.buffer_state.specs.declared.Start.{Start}
+use Rattle.buffer_state.specs.declared.WindowEnd.{WindowEnd}
+use Rattle.buffer_state.specs.declared.WindowEnd.TheVariants.{Unbounded, At}
 use Rattle.buffer_state.specs.Settings.{create}
 use Rattle.buffer_state.specs.WellFormed.{all_of}
 use Rattle.buffer_laws.proofs.KeptLaws.{Keeps, Made, OutcomeKeeps, SettingKeeps}
@@ -39,10 +34,10 @@ use Rattle.galumper.specs.declared.FlatBatched.{FlatBatched}
 use Rattle.galumper.specs.declared.FlatHead.{FlatHead}
 use Rattle.galumper.specs.declared.FlatStart.{FlatStart}
 use Rattle.galumper.specs.declared.Reading.{Reading}
-use Rattle.galumper.specs.Calls.{outcome_out, batch_out, handed_back, report_out, start_out, reading_out}
+use Rattle.galumper.specs.Calls.{outcome_out, batch_out, handed_back, created_out, report_out, start_out, bounded_in, end_in, reading_out}
 use Rattle.galumper.specs.Flat.{head_in, head_out}
 use Rattle.galumper.proofs.FlatLaws.{head-back}
-use Rattle.galumper_account.specs.Told.{refusal_of, count_of, stop_of, accepted_of, answer_of, read_of, start_of}
+use Rattle.galumper_account.specs.Told.{refusal_of, by_number, count_of, stop_of, accepted_of, done_of, read_of, start_of}
 
 -- ---- numbers of refusals
 
@@ -72,66 +67,50 @@ refused-back : {A : Type 0} (unless : A) (by : Refusal → A) (why : Refusal)
     → cond (eqb (refusal_number why) 0) unless (by (refusal_of (refusal_number why))) ≡ by why
 refused-back unless by why = let n = numbered why in rw n.some (ap by n.back)
 
-stop-back : (s : Stop) → stop_of (stop_number s) ≡ s
-stop-back Nothing = refl
-stop-back (By why) = refused-back Nothing By why
+stop-back : (s : Option Refusal) → stop_of (stop_number s) ≡ s
+stop-back None = refl
+stop-back (Some why) = refused-back None (λ (w : Refusal). Some w) why
 
--- the number of an answer
-abbrev pub count_number : Count → ℕ
-count_number (Count.Done n) = 0
-count_number (Count.Refused why) = refusal_number why
+-- an answer's two numbers: its refusal's, and one more of what it gives
+abbrev pub numbers : {A : Type 0} → (A → ℕ) → CallResult A → List ℕ
+numbers more (Err why) = refusal_number why ∷ 0 ∷ []
+numbers more (Ok x) = 0 ∷ more x ∷ []
 
--- both numbers of a batch's answer
-abbrev pub accepted_numbers : Accepted → List ℕ
-accepted_numbers (Accepted.Done n lines stop) = 0 ∷ stop_number stop ∷ []
-accepted_numbers (Accepted.Refused why) = refusal_number why ∷ 0 ∷ []
-
--- both numbers of a walk's answer
-abbrev pub taken_numbers : Count → List ℕ
-taken_numbers (Count.Done n) = 0 ∷ n ∷ []
-taken_numbers (Count.Refused why) = refusal_number why ∷ 0 ∷ []
-
--- those of a seek's
-abbrev pub sought_numbers : Sought → List ℕ
-sought_numbers (Sought.Found target flagged count) = 0 ∷ count ∷ []
-sought_numbers (Sought.Refused why) = refusal_number why ∷ 0 ∷ []
-
-abbrev pub answer_number : Answer → ℕ
-answer_number Answer.Done = 0
-answer_number (Answer.Refused why) = refusal_number why
-
-abbrev pub read_number : Read → ℕ
-read_number (Read.Bounded offset start end) = 0
-read_number (Read.Unbounded offset start) = 0
-read_number (Read.Refused why) = refusal_number why
+-- the refusal's alone
+abbrev pub number : {A : Type 0} → CallResult A → List ℕ
+number (Err why) = refusal_number why ∷ 0 ∷ []
+number (Ok x) = 0 ∷ 0 ∷ []
 
 -- ---- a report, a walk, a seek and a reading
 
-pub record Reports (n : Count) (r : FlatAnswer) : Type 0 where
+pub record Reports (n : CallResult ℕ) (r : FlatAnswer) : Type 0 where
   pub same : count_of r ≡ n
-  pub number : r.refusal ≡ count_number n
-  pub numbers : r.refusal ∷ r.count ∷ [] ≡ taken_numbers n
+  pub number : r.refusal ∷ 0 ∷ [] ≡ number n
+  pub numbers : r.refusal ∷ r.count ∷ [] ≡ numbers (λ (k : ℕ). k) n
 
-pub report-read : (n : Count) → Reports n (report_out n)
-report-read (Count.Done n) = record { same = refl; number = refl; numbers = refl }
-report-read (Count.Refused why) = record { same = refused-back (Count.Done 0) Count.Refused why; number = refl; numbers = refl }
+pub report-read : (n : CallResult ℕ) → Reports n (report_out n)
+report-read (Ok n) = record { same = refl; number = refl; numbers = refl }
+report-read (Err why) = record { same = refused-back (Ok 0) (λ (w : Refusal). Err w) why; number = refl; numbers = refl }
 
 pub record Starts (n : CallResult Start) (r : FlatStart) : Type 0 where
-  pub same : start_of r ≡ sought n
-  pub numbers : r.refusal ∷ r.count ∷ [] ≡ sought_numbers (sought n)
+  pub same : start_of r ≡ n
+  pub numbers : r.refusal ∷ r.count ∷ [] ≡ numbers (λ (s : Start). s.count) n
 
 pub start-read : (n : CallResult Start) → Starts n (start_out n)
-start-read (done s) = record { same = refl; numbers = refl }
-start-read (refused why) = record { same = refused-back (Sought.Found 0 0 0) Sought.Refused why; numbers = refl }
+start-read (Ok s) = record { same = refl; numbers = refl }
+start-read (Err why) = record { same = refused-back _ (λ (w : Refusal). Err w) why; numbers = refl }
 
-pub record Reads (n : Read) (r : Reading) : Type 0 where
+pub record Reads (n : CallResult Settings.Reading) (r : Reading) : Type 0 where
   pub same : read_of r ≡ n
-  pub number : r.refusal ≡ read_number n
+  pub number : r.refusal ∷ 0 ∷ [] ≡ number n
 
-pub reading-read : (n : Read) → Reads n (reading_out n)
-reading-read (Read.Bounded offset start end) = record { same = refl; number = refl }
-reading-read (Read.Unbounded offset start) = record { same = refl; number = refl }
-reading-read (Read.Refused why) = record { same = refused-back _ Read.Refused why; number = refl }
+end-read : (e : WindowEnd) → cond (eqb (bounded_in e) 1) (At (end_in e)) Unbounded ≡ e
+end-read Unbounded = refl
+end-read (At x) = refl
+
+pub reading-read : (n : CallResult Settings.Reading) → Reads n (reading_out n)
+reading-read (Ok r) = record { same = λ i. Ok (record { offset = r.offset; start = r.start; end = end-read r.end i }); number = refl }
+reading-read (Err why) = record { same = refused-back _ (λ (w : Refusal). Err w) why; number = refl }
 
 -- ---- a head
 
@@ -147,60 +126,44 @@ sound-out h k =
 
 -- ---- append and remove
 
-pub record Counts (n : Counted) (r : Answered) : Type 0 where
-  pub same : ◌≡◌ {A = Counted} (record { answer = count_of r.answer; head = head_in r.head }) n
-  pub number : r.answer.refusal ≡ count_number n.answer
+pub record Counts (n : CallResult ℕ) (h : Head) (r : Answered) : Type 0 where
+  pub same : count_of r.answer ≡ n
+  pub head : head_in r.head ≡ h
+  pub number : r.answer.refusal ∷ 0 ∷ [] ≡ number n
   pub sound : IsSound r.head
 
-pub outcome-read : (c : FlatHead) → IsSound c → (x : CallResult Outcome) → OutcomeKeeps IsNumber x → Counts (counted (head_in c) x) (outcome_out c x)
-outcome-read c s (refused why) k = record {
-  same = λ i. record { answer = refused-back (Count.Done 0) Count.Refused why i; head = head_in c };
-  number = refl;
-  sound = s;
-}
-outcome-read c s (done o) k = record {
-  same = λ i. record { answer = Count.Done (length o.lines); head = head-back (head_of o.after) k i };
-  number = refl;
-  sound = sound-out (head_of o.after) k;
-}
+pub outcome-read : (c : FlatHead) → IsSound c → (x : CallResult Outcome) → OutcomeKeeps IsNumber x → Counts (line_count x) (head_after x (head_in c)) (outcome_out c x)
+outcome-read c s (Err why) k = record { same = refused-back (Ok 0) (λ (w : Refusal). Err w) why; head = refl; number = refl; sound = s }
+outcome-read c s (Ok o) k = record { same = refl; head = head-back (head_of o.after) k; number = refl; sound = sound-out (head_of o.after) k }
 
 -- ---- a batch
 
-pub record Accepts (n : Batched) (r : FlatBatched) : Type 0 where
-  pub same : ◌≡◌ {A = Batched} (record { answer = accepted_of r.answer; head = head_in r.head }) n
-  pub numbers : r.answer.refusal ∷ r.answer.stop ∷ [] ≡ accepted_numbers n.answer
+pub record Accepts (n : CallResult Accepted) (h : Head) (r : FlatBatched) : Type 0 where
+  pub same : accepted_of r.answer ≡ n
+  pub head : head_in r.head ≡ h
+  pub numbers : r.answer.refusal ∷ r.answer.stop ∷ [] ≡ numbers (λ (a : Accepted). stop_number a.stop) n
   pub sound : IsSound r.head
 
-pub batch-read : (c : FlatHead) → IsSound c → (x : CallResult Batch) → OutcomeKeeps IsNumber (outcome_of x) → Accepts (batched (head_in c) x) (batch_out c x)
-batch-read c s (refused why) k = record {
-  same = λ i. record { answer = refused-back (Accepted.Done 0 0 Nothing) Accepted.Refused why i; head = head_in c };
-  numbers = refl;
-  sound = s;
-}
-batch-read c s (done r) k = record {
-  same = λ i. record { answer = Accepted.Done r.accepted (length r.outcome.lines) (stop-back r.stop i); head = head-back (head_of r.outcome.after) k i };
+pub batch-read : (c : FlatHead) → IsSound c → (x : CallResult Batch) → OutcomeKeeps IsNumber (outcome_of x) → Accepts (batch_answer x) (head_after (outcome_of x) (head_in c)) (batch_out c x)
+batch-read c s (Err why) k = record { same = refused-back _ (λ (w : Refusal). Err w) why; head = refl; numbers = refl; sound = s }
+batch-read c s (Ok r) k = record {
+  same = λ i. Ok (record { frames = r.accepted; lines = length r.outcome.lines; stop = stop-back r.stop i });
+  head = head-back (head_of r.outcome.after) k;
   numbers = refl;
   sound = sound-out (head_of r.outcome.after) k;
 }
 
--- ---- creation, abort and the setters
+-- ---- abort and the setters
 
-pub record Changes (n : Changed) (r : Answered) : Type 0 where
-  pub same : ◌≡◌ {A = Changed} (record { answer = answer_of r.answer; head = head_in r.head }) n
-  pub number : r.answer.refusal ≡ answer_number n.answer
+pub record Changes (n : CallResult (Unit {0})) (h : Head) (r : Answered) : Type 0 where
+  pub same : done_of r.answer ≡ n
+  pub head : head_in r.head ≡ h
+  pub number : r.answer.refusal ∷ 0 ∷ [] ≡ number n
   pub sound : IsSound r.head
 
-pub setting-read : (c : FlatHead) → IsSound c → (x : CallResult Buffer) → SettingKeeps IsNumber x → Changes (changed (head_in c) x) (handed_back c (changed (head_in c) x))
-setting-read c s (refused why) k = record {
-  same = λ i. record { answer = refused-back Answer.Done Answer.Refused why i; head = head_in c };
-  number = refl;
-  sound = s;
-}
-setting-read c s (done b) k = record {
-  same = λ i. record { answer = Answer.Done; head = head-back (head_of b) k i };
-  number = refl;
-  sound = sound-out (head_of b) k;
-}
+pub setting-read : (c : FlatHead) → IsSound c → (x : CallResult Buffer) → SettingKeeps IsNumber x → Changes (set_answer x) (head_set x (head_in c)) (handed_back c x)
+setting-read c s (Err why) k = record { same = refused-back (Ok tt) (λ (w : Refusal). Err w) why; head = refl; number = refl; sound = s }
+setting-read c s (Ok b) k = record { same = refl; head = head-back (head_of b) k; number = refl; sound = sound-out (head_of b) k }
 
 -- ---- the doubles that stay numbers
 
@@ -211,21 +174,17 @@ made-numbers = record { zero = zero_number; quotient = quotient-number }
 zero-keeps : Keeps IsNumber fresh_settings
 zero-keeps = record { offset = zero_number; start = zero_number; end = tt }
 
-pub created-read : (kinds : List ℕ) → Changes (changed zero_head (create kinds)) (handed_back (head_out (changed zero_head (create kinds)).head) (changed zero_head (create kinds)))
+pub record Creates (n : CallResult Head) (r : Answered) : Type 0 where
+  pub same : by_number r.answer.refusal (head_in r.head) ≡ n
+  pub sound : IsSound r.head
+
+pub created-read : (kinds : List ℕ) → Creates (created (create kinds)) (created_out (create kinds))
 unfolding create
 created-read kinds =
-    by-test (λ (x : CallResult Buffer). Changes (changed zero_head x) (handed_back (head_out (changed zero_head x).head) (changed zero_head x)))
+    by-test (λ (x : CallResult Buffer). Creates (created x) (created_out x))
     (eqb (length kinds) 0 || (ltb most_tracks (length kinds) || not (all_of known_kind kinds)))
-    (λ _. record {
-      same = λ i. record { answer = Answer.Refused Kinds; head = head-back zero_head zero-keeps i };
-      number = refl;
-      sound = sound-out zero_head zero-keeps;
-    })
-    (λ _. record {
-      same = λ i. record { answer = Answer.Done; head = head-back (head_of (fresh kinds)) zero-keeps i };
-      number = refl;
-      sound = sound-out (head_of (fresh kinds)) zero-keeps;
-    })
+    (λ _. record { same = refl; sound = sound-out zero_head zero-keeps })
+    (λ _. record { same = ap (λ (h : Head). Ok h) (head-back (head_of (fresh kinds)) zero-keeps); sound = sound-out (head_of (fresh kinds)) zero-keeps })
 
 -- of a call on a head and arrays, from the call on a buffer
 module _ (h : Head) (ts : List (List ℤ)) (gs : List (List ℕ)) (k : Keeps IsNumber h.settings) where

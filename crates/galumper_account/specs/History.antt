@@ -1,13 +1,13 @@
 -- A history of exported calls on one buffer, each step what the contract of that call in galumper says, which is its export's
 -- (crates/galumper_c/proofs/Exports.antt), and the claim of demand 3 about every such history.
-use Rattle.std.specs.Prelude.{◌≡◌, List, [], ◌∷◌, map, ℕ, T, ℤ, Float}
+use Rattle.std.specs.Prelude.{◌≡◌, List, [], ◌∷◌, map, ℕ, T, ℤ, Float, Ok, Err}
 use contract.Lifetimes.{Lfts}
 use denote.Ref.{Bor, MutBor, at_last}
 use Rattle.std.specs.Float.{binary64}
 use Rattle.std.specs.Float.Ieee.{fits}
 use Rattle.buffer_state.specs.Buffer.{Buffer, fresh}
 use Rattle.buffer_state.specs.Lent.{Lent, head_of, times_in, tags_in}
-use Rattle.buffer_state.specs.Refusals.{CallResult, refused, done, refusal_number, stop_number}
+use Rattle.buffer_state.specs.Refusals.{CallResult, refusal_number, stop_number}
 use Rattle.buffer_state.specs.Run.{Answer, ok, fates, settings, ranges, accepted, taken, decoding, Entry, run, last_of}
 use Rattle.account.specs.Made.{calls}
 use Rattle.account.specs.History as Account
@@ -141,14 +141,14 @@ pub data IsHistory : List ℕ → List Told → Held → Type 0 where
 -- The numbers of a result of the run: of its refusal, 0 where there is none; of the one that stopped a batch, 0 where there is none, or how
 -- many frames a walk took or a seek found to decode.
 abbrev pub result_numbers : CallResult Answer → List ℕ
-result_numbers (refused why) = refusal_number why ∷ 0 ∷ []
-result_numbers (done ok) = 0 ∷ 0 ∷ []
-result_numbers (done (fates ls)) = 0 ∷ 0 ∷ []
-result_numbers (done (settings r)) = 0 ∷ 0 ∷ []
-result_numbers (done (ranges rs)) = 0 ∷ 0 ∷ []
-result_numbers (done (accepted n stop ls)) = 0 ∷ stop_number stop ∷ []
-result_numbers (done (taken n)) = 0 ∷ n ∷ []
-result_numbers (done (decoding s)) = 0 ∷ s.count ∷ []
+result_numbers (Err why) = refusal_number why ∷ 0 ∷ []
+result_numbers (Ok ok) = 0 ∷ 0 ∷ []
+result_numbers (Ok (fates ls)) = 0 ∷ 0 ∷ []
+result_numbers (Ok (settings r)) = 0 ∷ 0 ∷ []
+result_numbers (Ok (ranges rs)) = 0 ∷ 0 ∷ []
+result_numbers (Ok (accepted n stop ls)) = 0 ∷ stop_number stop ∷ []
+result_numbers (Ok (taken n)) = 0 ∷ n ∷ []
+result_numbers (Ok (decoding s)) = 0 ∷ s.count ∷ []
 
 -- THE CLAIM about a history of exported calls.
 pub record Claim (kinds : List ℕ) (ms : List Told) (t : Held) : Type 0 where

@@ -1,17 +1,15 @@
 -- An exported call as a program makes it, and what it answers, in numbers; and the same call in the words of the account (crate account).
-use Rattle.std.specs.Prelude.{cond, List, [], ◌∷◌, ℕ, ◌-◌, T, eqb, ℤ, Float, get_or}
+use Rattle.std.specs.Prelude.{cond, List, [], ◌∷◌, ℕ, ◌-◌, T, eqb, ℤ, Float, get_or, Option, None, Some, Ok, Err}
 use Rattle.std.specs.Float.{binary64}
 use Rattle.std.specs.Float.Ieee.{fits}
 use Rattle.buffer_state.specs.declared.Accepted.{Accepted}
-use Rattle.buffer_state.specs.declared.Answer.{Answer}
-use Rattle.buffer_state.specs.declared.Count.{Count}
 use Rattle.buffer_state.specs.declared.Mode.TheVariants.{Segments, Sequence}
-use Rattle.buffer_state.specs.declared.Read.{Read}
+use Rattle.buffer_state.specs.declared.Reading as Settings
 use Rattle.buffer_state.specs.declared.Refusal.{Refusal}
 use Rattle.buffer_state.specs.declared.Refusal.TheVariants.{IllFormed, ShortFates, NoTrack, FrameLimits, Seconds, Order, ResultLimits, Full, LastNumber, ShortList, Kinds, Malformed, LentSize, LargeFragment, NoStart}
-use Rattle.buffer_state.specs.declared.Sought.{Sought}
-use Rattle.buffer_state.specs.declared.Stop.{Stop}
-use Rattle.buffer_state.specs.declared.Stop.TheVariants.{Nothing, By}
+use Rattle.buffer_state.specs.declared.Start.{Start}
+use Rattle.buffer_state.specs.declared.WindowEnd.TheVariants.{Unbounded, At}
+use Rattle.buffer_state.specs.Refusals.{CallResult}
 use Rattle.account.specs.Made as Account
 use Rattle.account.specs.Made.{Given, Back, Made}
 use Rattle.galumper.specs.declared.FlatAnswer.{FlatAnswer}
@@ -41,19 +39,14 @@ pub data Ask : Type 0 where
   walked : ℕ → ℕ → Ask
   seek : ℕ → ℤ → Ask
 
--- an answer that counts lines or ranges, and the lent list afterwards
-pub record Filled (A : Type 0) : Type 0 where
-  pub answer : FlatAnswer
+-- an answer, and the lent list afterwards
+pub record Filled (R A : Type 0) : Type 0 where
+  pub answer : R
   pub after : List A
 
--- a batch's answer, and the lent fate list afterwards
-pub record Joined : Type 0 where
-  pub answer : FlatBatch
-  pub after : List (List ℕ)
-
 abbrev pub Got : Ask → Type 0
-Got (append f lent) = Filled (List ℕ)
-Got (remove start end lent) = Filled (List ℕ)
+Got (append f lent) = Filled FlatAnswer (List ℕ)
+Got (remove start end lent) = Filled FlatAnswer (List ℕ)
 Got abort = FlatAnswer
 Got set_segments = FlatAnswer
 Got set_sequence = FlatAnswer
@@ -61,9 +54,9 @@ Got (set_offset x f) = FlatAnswer
 Got (set_window_start x f) = FlatAnswer
 Got (set_window_end x f) = FlatAnswer
 Got read_settings = Reading
-Got (track_ranges track lent) = Filled (List ℤ)
-Got (common_ranges lent) = Filled (List ℤ)
-Got (batch rows lent) = Joined
+Got (track_ranges track lent) = Filled FlatAnswer (List ℤ)
+Got (common_ranges lent) = Filled FlatAnswer (List ℤ)
+Got (batch rows lent) = Filled FlatBatch (List ℕ)
 Got (walked track room) = FlatAnswer
 Got (seek track t) = FlatStart
 
@@ -97,26 +90,27 @@ refusal_of n =
     get_or (IllFormed ∷ ShortFates ∷ NoTrack ∷ FrameLimits ∷ Seconds ∷ Order ∷ ResultLimits ∷ Full ∷ LastNumber ∷ ShortList ∷ Kinds ∷ Malformed ∷ LentSize ∷ LargeFragment ∷ NoStart ∷ [])
     (n - 1) IllFormed
 
-abbrev pub count_of : FlatAnswer → Count
-count_of a = cond (eqb a.refusal 0) (Count.Done a.count) (Count.Refused (refusal_of a.refusal))
+-- an answer's refusal, by its number, or what the answer gives
+abbrev pub by_number : {A : Type 0} → ℕ → A → CallResult A
+by_number n x = cond (eqb n 0) (Ok x) (Err (refusal_of n))
 
-abbrev pub stop_of : ℕ → Stop
-stop_of n = cond (eqb n 0) Nothing (By (refusal_of n))
+abbrev pub count_of : FlatAnswer → CallResult ℕ
+count_of a = by_number a.refusal a.count
 
-abbrev pub accepted_of : FlatBatch → Accepted
-accepted_of a = cond (eqb a.refusal 0) (Accepted.Done a.accepted a.count (stop_of a.stop)) (Accepted.Refused (refusal_of a.refusal))
+abbrev pub stop_of : ℕ → Option Refusal
+stop_of n = cond (eqb n 0) None (Some (refusal_of n))
 
-abbrev pub answer_of : FlatAnswer → Answer
-answer_of a = cond (eqb a.refusal 0) Answer.Done (Answer.Refused (refusal_of a.refusal))
+abbrev pub accepted_of : FlatBatch → CallResult Accepted
+accepted_of a = by_number a.refusal (record { frames = a.accepted; lines = a.count; stop = stop_of a.stop })
 
-abbrev pub read_of : Reading → Read
-read_of r =
-    cond (eqb r.refusal 0)
-    (cond (eqb r.bounded 1) (Read.Bounded r.offset r.start r.end) (Read.Unbounded r.offset r.start))
-    (Read.Refused (refusal_of r.refusal))
+abbrev pub done_of : FlatAnswer → CallResult (Unit {0})
+done_of a = by_number a.refusal tt
 
-abbrev pub start_of : FlatStart → Sought
-start_of a = cond (eqb a.refusal 0) (Sought.Found a.target a.flagged a.count) (Sought.Refused (refusal_of a.refusal))
+abbrev pub read_of : Reading → CallResult Settings.Reading
+read_of r = by_number r.refusal (record { offset = r.offset; start = r.start; end = cond (eqb r.bounded 1) (At r.end) Unbounded })
+
+abbrev pub start_of : FlatStart → CallResult Start
+start_of a = by_number a.refusal (record { target = a.target; flagged = a.flagged; count = a.count })
 
 abbrev pub given : Ask → Given
 given (append f lent) = Account.append (offered_in f) lent
@@ -137,12 +131,12 @@ given (seek track t) = Account.seek track t
 abbrev pub back : (a : Ask) → Got a → Back (given a)
 back (append f lent) g = record { answer = count_of g.answer; after = g.after }
 back (remove start end lent) g = record { answer = count_of g.answer; after = g.after }
-back abort g = answer_of g
-back set_segments g = answer_of g
-back set_sequence g = answer_of g
-back (set_offset x f) g = answer_of g
-back (set_window_start x f) g = answer_of g
-back (set_window_end x f) g = answer_of g
+back abort g = done_of g
+back set_segments g = done_of g
+back set_sequence g = done_of g
+back (set_offset x f) g = done_of g
+back (set_window_start x f) g = done_of g
+back (set_window_end x f) g = done_of g
 back read_settings g = read_of g
 back (track_ranges track lent) g = record { answer = count_of g.answer; after = g.after }
 back (common_ranges lent) g = record { answer = count_of g.answer; after = g.after }

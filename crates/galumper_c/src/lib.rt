@@ -4,7 +4,7 @@
 #![tactic(auto)]
 
 ghost use Rattle.std.specs.Prelude.{◌≡◌, cond, ◌≤◌, length};
-ghost use Rattle.buffer_state.specs.Answers.{times_created, tags_created, times_after, tags_after, list_after, outcome_of, abort_answer, mode_answer, offset_answer, window_start_answer, window_end_answer, settings_answer, create_answer, range_count, ranges_after, track_ranges_result, common_ranges_result, taken_count, walked_result, seek_result};
+ghost use Rattle.buffer_state.specs.Answers.{times_created, tags_created, times_after, tags_after, list_after, outcome_of, abort_result, mode_result, offset_result, window_start_result, window_end_result, settings_result, range_count, ranges_after, track_ranges_result, common_ranges_result, walked_result, seek_result};
 ghost use Rattle.buffer_state.specs.Layout.{buffer_of};
 ghost use Rattle.buffer_state.specs.Lent.{state_at};
 ghost use Rattle.buffer_state.specs.Run.{stored_on};
@@ -44,7 +44,7 @@ pub extern "C" fn galumper_size() -> usize
 // A buffer from a lent list of kinds: it clears the arrays. Refused, it touches nothing, and its head is of zeros.
 #[unsafe(no_mangle)]
 pub extern "C" fn galumper_lent_create(kinds: &[u8], times: &mut Times, tags: &mut Tags) -> Answered
-    ensures answer { result ≡ created_out (create_answer kinds.now) }
+    ensures answer { result ≡ created_out (create kinds.now) }
     ensures times { times.new ≡ times_created (create kinds.now) times.old }
     ensures tags { tags.new ≡ tags_created (create kinds.now) tags.old }
 {
@@ -105,7 +105,7 @@ pub extern "C" fn galumper_lent_remove(
 
 #[unsafe(no_mangle)]
 pub extern "C" fn galumper_lent_abort(c: FlatHead, times: &Times, tags: &Tags) -> Answered
-    ensures { result ≡ handed_back c (abort_answer (head_in c) times.now tags.now) }
+    ensures { result ≡ handed_back c (abort_result (head_in c) times.now tags.now) }
 {
     galumper::galumper_lent_abort(c, times, tags)
 }
@@ -113,14 +113,14 @@ pub extern "C" fn galumper_lent_abort(c: FlatHead, times: &Times, tags: &Tags) -
 // A call for each mode, so that no other can be passed.
 #[unsafe(no_mangle)]
 pub extern "C" fn galumper_lent_set_segments(c: FlatHead, times: &Times, tags: &Tags) -> Answered
-    ensures { result ≡ handed_back c (mode_answer Segments (head_in c) times.now tags.now) }
+    ensures { result ≡ handed_back c (mode_result Segments (head_in c) times.now tags.now) }
 {
     galumper::galumper_lent_set_segments(c, times, tags)
 }
 
 #[unsafe(no_mangle)]
 pub extern "C" fn galumper_lent_set_sequence(c: FlatHead, times: &Times, tags: &Tags) -> Answered
-    ensures { result ≡ handed_back c (mode_answer Sequence (head_in c) times.now tags.now) }
+    ensures { result ≡ handed_back c (mode_result Sequence (head_in c) times.now tags.now) }
 {
     galumper::galumper_lent_set_sequence(c, times, tags)
 }
@@ -132,7 +132,7 @@ pub extern "C" fn galumper_lent_set_offset(
     tags: &Tags,
     seconds: f64,
 ) -> Answered
-    ensures { result ≡ handed_back c (offset_answer seconds (head_in c) times.now tags.now) }
+    ensures { result ≡ handed_back c (offset_result seconds (head_in c) times.now tags.now) }
 {
     galumper::galumper_lent_set_offset(c, times, tags, seconds)
 }
@@ -144,7 +144,7 @@ pub extern "C" fn galumper_lent_set_window_start(
     tags: &Tags,
     seconds: f64,
 ) -> Answered
-    ensures { result ≡ handed_back c (window_start_answer seconds (head_in c) times.now tags.now) }
+    ensures { result ≡ handed_back c (window_start_result seconds (head_in c) times.now tags.now) }
 {
     galumper::galumper_lent_set_window_start(c, times, tags, seconds)
 }
@@ -156,14 +156,14 @@ pub extern "C" fn galumper_lent_set_window_end(
     tags: &Tags,
     seconds: f64,
 ) -> Answered
-    ensures { result ≡ handed_back c (window_end_answer seconds (head_in c) times.now tags.now) }
+    ensures { result ≡ handed_back c (window_end_result seconds (head_in c) times.now tags.now) }
 {
     galumper::galumper_lent_set_window_end(c, times, tags, seconds)
 }
 
 #[unsafe(no_mangle)]
 pub extern "C" fn galumper_lent_read_settings(c: FlatHead, times: &Times, tags: &Tags) -> Reading
-    ensures { result ≡ reading_out (settings_answer (head_in c) times.now tags.now) }
+    ensures { result ≡ reading_out (settings_result (head_in c) times.now tags.now) }
 {
     galumper::galumper_lent_read_settings(c, times, tags)
 }
@@ -206,7 +206,7 @@ pub extern "C" fn galumper_lent_walked(
     track: u32,
     room: usize,
 ) -> FlatAnswer
-    ensures { result ≡ report_out (taken_count (walked_result room track (head_in c) times.now tags.now)) }
+    ensures { result ≡ report_out (walked_result room track (head_in c) times.now tags.now) }
 {
     galumper::galumper_lent_walked(c, times, tags, track, room)
 }

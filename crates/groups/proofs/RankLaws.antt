@@ -1,6 +1,6 @@
 -- A number's place in a list that rises, and slots by places.
 use mathlib.Core.Path.{◌≡◌, sym, ap, ap₂, subst, ◌∙◌}
-use mathlib.Core.Bool.{true}
+use mathlib.Core.Bool.{true, false}
 use mathlib.Core.List.{List, [], ◌∷◌}
 use Prim.Native.Nat.{ℕ, zero, suc, ◌+◌, ◌-◌, ◌≤◌, ◌<◌}
 use native.Mathlib.Nat.{not-suc-le-zero}
@@ -9,6 +9,8 @@ use lib.Dec.{ltb, leb, eqb}
 use lib.ListN.{length, take, get_or, set}
 use lib.Seq.{get_or-take, length-take-le, get_or-set_same, get_or-set_other}
 use borrow.Author.Tests.{eqb-true, eqb-false, ltb-true, ltb-false, leb-true}
+use Rattle.std.specs.List.{AllWithin}
+use Rattle.std.specs.List.Sorted.{IsPartitionedBy, IsPartitionPoint}
 use Rattle.laws.proofs.BoolLaws.{split, and_left, and_right}
 use Rattle.sorting.specs.Sorting.{most, rises, neighbours, following, occurrences, Sorts}
 use Rattle.sorting.proofs.SortLaws.{occurs-none, occurs-first, occurs-later, following-rest, none_below}
@@ -16,36 +18,56 @@ use Rattle.groups.specs.Groups.{group_in, IsSlotted, group_numbers, key_of, key_
 
 -- ---- a number's place
 
-following-at : (y : ℕ) (l : List ℕ) (m : ℕ) → following leb y l ≡ true → m < length l → y ≤ get_or l m 0
+following-at : (y : ℕ) (l : List ℕ) (m d : ℕ) → following leb y l ≡ true → m < length l → y ≤ get_or l m d
 unfolding following
-following-at y [] m e h = absurd (not-suc-le-zero h)
-following-at y (z ∷ l) zero e h = leb-true y z (and_left (leb y z) (following leb z l) e)
-following-at y (z ∷ l) (suc m) e h =
+following-at y [] m d e h = absurd (not-suc-le-zero h)
+following-at y (z ∷ l) zero d e h = leb-true y z (and_left (leb y z) (following leb z l) e)
+following-at y (z ∷ l) (suc m) d e h =
     let a : y ≤ z = leb-true y z (and_left (leb y z) (following leb z l) e) in
-    let b : z ≤ get_or l m 0 = following-at z l m (and_right (leb y z) (following leb z l) e) (omega arith) in
+    let b : z ≤ get_or l m d = following-at z l m d (and_right (leb y z) (following leb z l) e) (omega arith) in
     omega arith
 
-pub place-below : (x : ℕ) (l : List ℕ) (m : ℕ) → m < length l → x ≤ get_or l m 0 → place_of x l ≤ m
+place-below : (x : ℕ) (l : List ℕ) (m d : ℕ) → m < length l → x ≤ get_or l m d → place_of x l ≤ m
 unfolding place_of
-place-below x [] m h e = absurd (not-suc-le-zero h)
-place-below x (y ∷ l) zero h e = split (ltb y x) (λ q. absurd (omega (arith, ltb-true y x q))) (λ q. rw q (omega arith))
-place-below x (y ∷ l) (suc m) h e =
-    let r : place_of x l ≤ m = place-below x l m (omega arith) e in
+place-below x [] m d h e = absurd (not-suc-le-zero h)
+place-below x (y ∷ l) zero d h e = split (ltb y x) (λ q. absurd (omega (arith, ltb-true y x q))) (λ q. rw q (omega arith))
+place-below x (y ∷ l) (suc m) d h e =
+    let r : place_of x l ≤ m = place-below x l m d (omega arith) e in
     split (ltb y x) (λ q. rw q (omega arith)) (λ q. rw q (omega arith))
 
-pub place-above : (x : ℕ) (l : List ℕ) (m : ℕ) → rises l ≡ true → m < length l → get_or l m 0 < x → m + 1 ≤ place_of x l
+place-above : (x : ℕ) (l : List ℕ) (m d : ℕ) → rises l ≡ true → m < length l → get_or l m d < x → m + 1 ≤ place_of x l
 unfolding place_of neighbours
-place-above x [] m s h e = absurd (not-suc-le-zero h)
-place-above x (y ∷ l) zero s h e = split (ltb y x) (λ q. rw q (omega arith)) (λ q. absurd (omega (arith, ltb-false y x q)))
-place-above x (y ∷ l) (suc m) s h e =
-    let r : m + 1 ≤ place_of x l = place-above x l m (following-rest leb y l s) (omega arith) e in
-    let a : y ≤ get_or l m 0 = following-at y l m s (omega arith) in
+place-above x [] m d s h e = absurd (not-suc-le-zero h)
+place-above x (y ∷ l) zero d s h e = split (ltb y x) (λ q. rw q (omega arith)) (λ q. absurd (omega (arith, ltb-false y x q)))
+place-above x (y ∷ l) (suc m) d s h e =
+    let r : m + 1 ≤ place_of x l = place-above x l m d (following-rest leb y l s) (omega arith) e in
+    let a : y ≤ get_or l m d = following-at y l m d s (omega arith) in
     split (ltb y x) (λ q. rw q (omega arith)) (λ q. absurd (omega (arith, ltb-false y x q)))
 
-pub place-most : (x : ℕ) (l : List ℕ) → place_of x l ≤ length l
+place-most : (x : ℕ) (l : List ℕ) → place_of x l ≤ length l
 unfolding place_of
 place-most x [] = omega arith
 place-most x (y ∷ l) = let r : place_of x l ≤ length l = place-most x l in split (ltb y x) (λ q. rw q (omega arith)) (λ q. rw q (omega arith))
+
+-- those below x stand before the others
+pub below-first : (x : ℕ) (l : List ℕ) → rises l ≡ true → IsPartitionedBy (λ y. ltb y x) l
+below-first x l s i j d le h e =
+    let up : j + 1 ≤ place_of x l = place-above x l j d s h (ltb-true (get_or l j d) x e) in
+    split (ltb (get_or l i d) x) (λ q. q) (λ q. absurd (omega (arith, le, up, place-below x l i d (omega arith) (ltb-false (get_or l i d) x q))))
+
+-- so their end is the place
+pub place-parted : (x : ℕ) (l : List ℕ) (i : ℕ) → rises l ≡ true → i ≤ length l
+    → IsPartitionPoint (λ y. ltb y x ≡ true) (λ y. ltb y x ≡ false) l i → place_of x l ≡ i
+place-parted x l i s h p =
+    let most : place_of x l ≤ i =
+    split (ltb i (length l))
+    (λ q. let k = ltb-true i (length l) q in place-below x l i 0 k (ltb-false (get_or l i 0) x (p.1 i 0 (omega arith) k)))
+    (λ q. omega (arith, place-most x l, ltb-false i (length l) q)) in
+    omega (arith, most, least i h p.0)
+  where
+    least : (n : ℕ) → n ≤ length l → AllWithin (λ y. ltb y x ≡ true) l 0 n → n ≤ place_of x l
+    least zero k q = omega arith
+    least (suc n) k q = let r : n + 1 ≤ place_of x l = place-above x l n 0 s (omega arith) (ltb-true (get_or l n 0) x (q n 0 (omega arith) (omega arith))) in omega arith
 
 -- a number of the list stands at its place
 place_here : (x : ℕ) (l : List ℕ) → rises l ≡ true → 1 ≤ occurrences x l → (place_of x l < length l) × (get_or l (place_of x l) 0 ≡ x)

@@ -33,15 +33,13 @@ fn slots_by_table(tags: &[[u32; 5]], first: usize, n: usize, slots: &mut [usize]
     ensures { result ≡ true → IsSlotted tags.now first n slots.new }
 {
     let mut seen = [0usize; ENTRIES];
-    let mut i = first;
-    while i < n {
+    for i in first..n {
         let tag = tags[i];
         let entry = entry_of(tag[0], tag[4]);
         let found = seen[entry];
         if found == 0 {
             slots[i] = i;
             seen[entry] = i + 1;
-            i += 1;
         } else {
             let place = found - 1;
             let other = tags[place];
@@ -49,7 +47,6 @@ fn slots_by_table(tags: &[[u32; 5]], first: usize, n: usize, slots: &mut [usize]
                 return false;
             }
             slots[i] = place;
-            i += 1;
         }
     }
     true
@@ -63,7 +60,7 @@ const GROUP_NUMBERS: u64 = 4294967296;
 fn key_of(track: u32, group: u32) -> u64
     ensures { (result ≡ key_of track group) × (group < group_numbers) }
 {
-    track as u64 * GROUP_NUMBERS + group as u64
+    u64::from(track) * GROUP_NUMBERS + u64::from(group)
 }
 
 fn keys_of(tags: &[[u32; 5]], first: usize, n: usize) -> [u64; MOST]
@@ -71,31 +68,19 @@ fn keys_of(tags: &[[u32; 5]], first: usize, n: usize) -> [u64; MOST]
     ensures { IsKeyed tags.now first n result }
 {
     let mut keys = [0u64; MOST];
-    let mut i = first;
-    while i < n {
+    for i in first..n {
         let tag = tags[i];
         keys[i - first] = key_of(tag[0], tag[4]);
-        i += 1;
     }
     keys
 }
 
-// How many of the first n numbers, which rise, are below x.
-fn place_of(a: &[u64], n: usize, x: u64) -> usize
-    requires { (n ≤ length a.now) × (rises (take n a.now) ≡ true) }
-    ensures { result ≡ place_of x (take n a.now) }
+// How many of the numbers, which rise, are below x.
+fn place_of(a: &[u64], x: u64) -> usize
+    requires { rises a.now ≡ true }
+    ensures { result ≡ place_of x a.now }
 {
-    let mut low: usize = 0;
-    let mut high = n;
-    while low < high {
-        let middle = (low + high) / 2;
-        if a[middle] < x {
-            low = middle + 1;
-        } else {
-            high = middle;
-        }
-    }
-    low
+    a.partition_point(|y| *y < x)
 }
 
 // A row has the place of its key among all of them in rising order.
@@ -107,13 +92,11 @@ fn slots_by_sort(tags: &[[u32; 5]], first: usize, n: usize, slots: &mut [usize])
     let mut other = [0u64; MOST];
     let m = n - first;
     sorting::sort(&mut keys, &mut other, m);
-    let mut i = first;
-    while i < n {
+    for i in first..n {
         let tag = tags[i];
         let k = key_of(tag[0], tag[4]);
-        let p = place_of(&keys, m, k);
+        let p = place_of(&keys[..m], k);
         slots[i] = p;
-        i += 1;
     }
 }
 

@@ -1,7 +1,6 @@
 -- The cause by which steps 4 to 6 drop a frame, test by test.
 use mathlib.Core.Path.{◌≡◌}
 use mathlib.Core.Bool.{true, false}
-use lib.ListN.{drop}
 use Rattle.buffer_state.specs.Append.{Pass, before_window, past_window, lacks_random_access}
 use Rattle.heads.specs.Heads.{drop_cause}
 

@@ -1,24 +1,23 @@
 -- Both passes: what they decide, and that each is good where it is not refused.
+use Rattle.std.specs.Prelude.{Option, None, Some, Result, Ok, Err}
 use mathlib.Core.Path.{◌≡◌, refl, sym, ap, ◌∙◌}
-use mathlib.Core.Bool.{Bool, true, false, ◌&&◌, and_assoc}
+use mathlib.Core.Bool.{Bool, true, false, not, ◌&&◌, and_assoc}
 use lib.IntN.{ℤ}
 use lib.ListN.{length}
 use Rattle.laws.proofs.BoolLaws.{clash, split}
 use Rattle.buffer_state.specs.declared.Offered.{Offered}
 use Rattle.buffer_state.specs.declared.Refusal.{Refusal}
 use Rattle.buffer_state.specs.declared.Refusal.TheVariants.{ResultLimits, LastNumber}
-use Rattle.buffer_state.specs.declared.Stop.{Stop}
-use Rattle.buffer_state.specs.declared.Stop.TheVariants.{Nothing, By}
 use Rattle.buffer_state.specs.Append.{Pass, step_one, step_two, pass_of, end_offered, fits, breaks, moved, regrouped_buffer, second_pass, last_pass, leaves_limits, lacks_group}
 use Rattle.buffer_state.specs.Buffer.{Buffer, is_sequence, in_next_group, in_last_group}
 use Rattle.buffer_state.specs.Limits.{result_time}
-use Rattle.buffer_state.specs.Refusals.{CallResult, refused, done, refuse_if}
+use Rattle.buffer_state.specs.Refusals.{CallResult, refuse_if}
 use Rattle.buffer_laws.proofs.AppendLaws.{fits-facts, pass-good, pass-number, moved-number, moved-good, first-from}
 use Rattle.buffer_laws.proofs.GoodLaws.{IsGood}
 use Rattle.buffer_state.specs.declared.Head.{Head}
 use Rattle.buffer_state.specs.Lent.{head_of}
-use Rattle.heads.specs.declared.Decided.{Decided}
-use Rattle.heads.specs.Heads.{IsGoodHead, HasTrack, IsCalm, decision, second_decision, DecidesAs}
+use Rattle.heads.specs.declared.Passed.{Passed}
+use Rattle.heads.specs.Heads.{IsGoodHead, HasTrack, IsCalm, passed_as, decided, first_decision, decision, second_decision}
 use Rattle.heads.proofs.HeadLaws.{good-head, head-good}
 
 -- ---- refusal 7, in the order in which the code asks
@@ -40,11 +39,19 @@ module _ (p : Pass) where
 -- ---- what is decided
 
 module _ (b : Buffer) (f : Offered) where
-  pub decides-out : fits (pass_of b f) ≡ false → decision b f ≡ refused ResultLimits
+  pub first-out : fits (pass_of b f) ≡ false → first_decision b f ≡ Err ResultLimits
+  unfolding first_decision
+  first-out e = rw e
+
+  pub first-in : fits (pass_of b f) ≡ true → first_decision b f ≡ Ok (pass_of b f)
+  unfolding first_decision
+  first-in e = rw e
+
+  pub decides-out : fits (pass_of b f) ≡ false → decision b f ≡ Err ResultLimits
   unfolding decision leaves_limits
   decides-out e = rw e
 
-  pub decides-first : fits (pass_of b f) ≡ true → breaks (pass_of b f) ≡ false → decision b f ≡ done (pass_of b f)
+  pub decides-first : fits (pass_of b f) ≡ true → breaks (pass_of b f) ≡ false → decision b f ≡ Ok (pass_of b f)
   unfolding decision leaves_limits lacks_group last_pass
   decides-first e d = rw (e, d)
 
@@ -53,39 +60,69 @@ module _ (b : Buffer) (f : Offered) where
   unfolding decision second_decision leaves_limits lacks_group last_pass second_pass
   decides-second e d = rw (e, d, pass-number b f)
 
--- ---- what is told of it
+-- ---- what the code holds of it
 
-refusal_in : Stop → Refusal → Refusal
-refusal_in Nothing other = other
-refusal_in (By why) other = why
+frame_in : Option Offered → Offered → Offered
+frame_in None other = other
+frame_in (Some f) other = f
 
-is_nothing : Stop → Bool
-is_nothing Nothing = true
-is_nothing (By why) = false
+pub some-same : {f g : Offered} → Some f ≡ Some g → f ≡ g
+unfolding frame_in
+some-same {f = f} e = ap (λ (x : Option Offered). frame_in x f) e
 
-pub told-refused : (d : Decided) (r : CallResult Pass) → DecidesAs d r → (why : Refusal) → d.stop ≡ By why → r ≡ refused why
-unfolding refusal_in is_nothing
-told-refused d (refused w) h why e = ap (λ (s : Stop). refused (refusal_in s w)) (sym h ∙ e)
-told-refused d (done p) h why e = clash (sym (ap (λ (x : Decided). is_nothing x.stop) h) ∙ ap is_nothing e)
+refusal_in : {A : Type 0} → Result A Refusal → Refusal → Refusal
+refusal_in (Ok x) other = other
+refusal_in (Err why) other = why
 
--- nothing stopped the frame: it is the last pass's
-pub record IsLast (b : Buffer) (f : Offered) (d : Decided) : Type 0 where
+pass_in : Result Passed Refusal → Passed → Passed
+pass_in (Ok p) other = p
+pass_in (Err why) other = other
+
+is_passed : {A : Type 0} → Result A Refusal → Bool
+is_passed (Ok x) = true
+is_passed (Err why) = false
+
+pub told-refused : (r : CallResult Pass) (why : Refusal) → Err why ≡ decided r → r ≡ Err why
+unfolding refusal_in is_passed
+told-refused (Err w) why e = ap (λ (x : Result Passed Refusal). Err (refusal_in x w)) (sym e)
+told-refused (Ok p) why e = clash (sym (ap is_passed e))
+
+-- one pass is not refused
+pub record IsFirst (b : Buffer) (f : Offered) (d : Passed) : Type 0 where
+  pub inside : fits (pass_of b f) ≡ true
+  pub told : d ≡ passed_as (pass_of b f)
+
+pub told-first : (b : Buffer) (f : Offered) (d : Passed) → Ok d ≡ decided (first_decision b f) → IsFirst b f d
+unfolding first_decision is_passed pass_in
+told-first b f d h = go (fits (pass_of b f)) refl h
+  where
+    go : (x : Bool) → fits (pass_of b f) ≡ x → Ok d ≡ decided (refuse_if (not x) ResultLimits (Ok (pass_of b f))) → IsFirst b f d
+    go true y s = record { inside = y; told = ap (λ (x : Result Passed Refusal). pass_in x d) s }
+    go false y s = clash (ap is_passed s)
+
+pub told-out : (b : Buffer) (f : Offered) (why : Refusal) → Err why ≡ decided (first_decision b f) → (fits (pass_of b f) ≡ false) × (why ≡ ResultLimits)
+unfolding first_decision is_passed refusal_in
+told-out b f why h = go (fits (pass_of b f)) refl h
+  where
+    go : (x : Bool) → fits (pass_of b f) ≡ x → Err why ≡ decided (refuse_if (not x) ResultLimits (Ok (pass_of b f))) → (fits (pass_of b f) ≡ false) × (why ≡ ResultLimits)
+    go true y s = clash (sym (ap is_passed s))
+    go false y s = (y, ap (λ (x : Result Passed Refusal). refusal_in x why) s)
+
+-- neither refusal 7 nor 9 stops the frame: it is the last pass's
+pub record IsLast (b : Buffer) (f : Offered) (d : Passed) : Type 0 where
   pub inside : leaves_limits b f ≡ false
   pub group : lacks_group b f ≡ false
-  pub told : d ≡ record { head = head_of (last_pass b f).buffer; frame = (last_pass b f).frame; stop = Nothing }
+  pub told : d ≡ passed_as (last_pass b f)
 
-pub told-last : (b : Buffer) (f : Offered) (d : Decided) → DecidesAs d (decision b f) → d.stop ≡ Nothing → IsLast b f d
-unfolding decision is_nothing
-told-last b f d h e = go (leaves_limits b f) (lacks_group b f) refl refl h
+pub told-last : (b : Buffer) (f : Offered) (d : Passed) → Ok d ≡ decided (decision b f) → IsLast b f d
+unfolding decision is_passed pass_in
+told-last b f d h = go (leaves_limits b f) (lacks_group b f) refl refl h
   where
-    stopped : (why : Refusal) → d.stop ≡ By why → IsLast b f d
-    stopped why s = clash (sym (ap is_nothing e) ∙ ap is_nothing s)
-
     go : (x y : Bool) → leaves_limits b f ≡ x → lacks_group b f ≡ y
-        → DecidesAs d (refuse_if x ResultLimits (refuse_if y LastNumber (done (last_pass b f)))) → IsLast b f d
-    go true y l g s = stopped ResultLimits s
-    go false true l g s = stopped LastNumber s
-    go false false l g s = record { inside = l; group = g; told = s }
+        → Ok d ≡ decided (refuse_if x ResultLimits (refuse_if y LastNumber (Ok (last_pass b f)))) → IsLast b f d
+    go true y l g s = clash (ap is_passed s)
+    go false true l g s = clash (ap is_passed s)
+    go false false l g s = record { inside = l; group = g; told = ap (λ (x : Result Passed Refusal). pass_in x d) s }
 
 -- ---- the second pass, before its group number is given
 
@@ -109,18 +146,18 @@ module _ (c : Buffer) (f : Offered) (p : ℤ) where
   pub second-number : unnumbered.buffer.group.number ≡ c.group.number
   second-number = pass-number (moved c p) f ∙ moved-number c p
 
-  pub second-out : fits unnumbered ≡ false → second_decision c f p ≡ refused ResultLimits
+  pub second-out : fits unnumbered ≡ false → second_decision c f p ≡ Err ResultLimits
   unfolding second_decision
   second-out e = rw (second_fits, e)
 
   module _ (e : fits unnumbered ≡ true) where
-    pub second-last : in_last_group c ≡ true → second_decision c f p ≡ refused LastNumber
+    pub second-last : in_last_group c ≡ true → second_decision c f p ≡ Err LastNumber
     unfolding second_decision
     second-last l = rw (second_fits, e, l)
 
-    pub second-done : in_last_group c ≡ false → second_decision c f p ≡ done (record { buffer = in_next_group unnumbered.buffer; frame = unnumbered.frame })
+    pub second-done : in_last_group c ≡ false → second_decision c f p ≡ Ok (record { buffer = in_next_group unnumbered.buffer; frame = unnumbered.frame })
     unfolding second_decision
-    second-done l = rw (second_fits, e, l) (ap done second_pass_lem)
+    second-done l = rw (second_fits, e, l) (ap Ok second_pass_lem)
 
 -- ---- a pass that leaves the buffer as it is
 

@@ -2,27 +2,25 @@
 // A promise on a head is made of every buffer b that has it: h ≡ head_of b.
 #![tactic(auto)]
 
-ghost use Rattle.std.specs.Prelude.{◌≡◌, true, ◌&&◌, ◌||◌, cond, List, ◌*◌, ◌^◌, ◌≤◌, ◌<◌, pos, ◌+ℤ◌, ◌-ℤ◌, nat_abs, length};
+ghost use Rattle.std.specs.Prelude.{◌≡◌, true, ◌&&◌, ◌||◌, cond, List, ◌*◌, ◌^◌, ◌≤◌, ◌<◌, pos, ◌+ℤ◌, ◌-ℤ◌, nat_abs, length, Some};
 ghost use Rattle.std.specs.Int.Signed.{lt_z, mag};
 ghost use Rattle.buffer_state.specs.declared.Frame.{Frame};
-ghost use Rattle.buffer_state.specs.declared.Stop.TheVariants.{Nothing, By};
-ghost use Rattle.buffer_state.specs.Append.{with_offset, step_one, step_two, end_offered, fits, pass_of, moved, breaks, above, dropped_outcome, raised, stored_as, followed, step_nine, is_offerable};
+ghost use Rattle.buffer_state.specs.Append.{with_offset, step_one, step_two, end_offered, fits, moved, breaks, above, dropped_outcome, raised, stored_as, followed, step_nine, is_offerable};
 ghost use Rattle.buffer_state.specs.Buffer.{Buffer, is_sequence, track_of, with_track, with_need, with_end, in_next_group};
 ghost use Rattle.buffer_state.specs.Lent.{head_of};
 ghost use Rattle.buffer_state.specs.Limits.{offered_time, result_time, last_number, last_group, places};
 ghost use Rattle.buffer_state.specs.WellFormed.{good_track};
-ghost use Rattle.heads.specs.Heads.{IsGoodHead, HasTrack, IsCalm, passed_as, second_decision, decision, DecidesAs, drop_cause, drop_buffer, next_head, grown_head};
+ghost use Rattle.heads.specs.Heads.{IsGoodHead, HasTrack, IsCalm, decided, first_decision, second_decision, decision, drop_cause, drop_buffer, next_head, grown_head};
 
 use buffer_state::{
-    Frame, Group, Head, LAST_GROUP, Offered, Refusal, Setting, Settings, Stop, Track, WindowEnd,
+    Frame, Group, Head, LAST_GROUP, Offered, Refusal, Setting, Settings, Track, WindowEnd,
 };
 
-// A pass: the head after step 1, the frame after step 2, and whether they are inside the result limits.
+// A pass: the head after step 1, and the frame after step 2.
 #[derive(Clone, Copy)]
-struct Passed {
-    head: Head,
-    frame: Offered,
-    fits: bool,
+pub struct Passed {
+    pub head: Head,
+    pub frame: Offered,
 }
 
 // ---- one track
@@ -32,9 +30,7 @@ pub fn track_of(h: Head, n: u32) -> Track
     requires { HasTrack h n }
     ensures { (b : Buffer) → h ≡ head_of b → result ≡ track_of b n }
 {
-    let i = n as usize - 1;
-    let t = h.tracks[i];
-    t
+    h.tracks[n as usize - 1]
 }
 
 fn with_track(h: Head, n: u32, t: Track) -> Head
@@ -67,17 +63,12 @@ fn with_offset(s: Settings, z: i64) -> Settings
     ensures { result ≡ with_offset s z }
 {
     let x = seconds::seconds_of(z);
-    let offset = Setting {
-        seconds: x,
-        micros: z,
-    };
-    let start = s.start;
-    let end = s.end;
     Settings {
-        offset: offset,
-        start: start,
-        end: end,
-        limit: s.limit,
+        offset: Setting {
+            seconds: x,
+            micros: z,
+        },
+        ..s
     }
 }
 
@@ -93,9 +84,7 @@ fn offset_to(start: i64, pts: i64) -> i64
 fn begins(h: Head) -> bool
     ensures { result ≡ (is_sequence h.mode && h.group.begun) }
 {
-    let m = h.mode;
-    let g = h.group;
-    tracks::is_sequence(m) & g.begun
+    tracks::is_sequence(h.mode) & h.group.begun
 }
 
 // Offset = group start - P as offered; group end = group start; need-random-access on for all tracks; group start unset.
@@ -106,27 +95,20 @@ fn step_one(h: Head, f: Offered) -> Head
     if !begins(h) {
         return h;
     }
-    let old = h.tracks;
-    let n = h.ntracks;
-    let mode = h.mode;
     let g = h.group;
-    let kept = h.settings;
-    let tracks = tracks::need_all(old, n);
-    let settings = with_offset(kept, offset_to(g.start, f.pts));
+    let tracks = tracks::need_all(h.tracks, h.ntracks);
+    let settings = with_offset(h.settings, offset_to(g.start, f.pts));
     let group = Group {
         begun: false,
         start: 0,
         end: g.start,
-        number: g.number,
+        ..g
     };
     Head {
-        tracks: tracks,
-        ntracks: n,
-        nframes: h.nframes,
-        mode: mode,
-        group: group,
-        last: h.last,
-        settings: settings,
+        tracks,
+        group,
+        settings,
+        ..h
     }
 }
 
@@ -144,15 +126,11 @@ fn step_two(h: Head, f: Offered) -> Offered
     requires { (mag h.settings.offset.micros ≤ 6000000000000) × (is_offerable f ≡ true) }
     ensures { (b : Buffer) → h ≡ head_of b → result ≡ step_two b f }
 {
-    let s = h.settings;
-    let o = s.offset;
-    let offset = o.micros;
+    let offset = h.settings.offset.micros;
     Offered {
-        track: f.track,
-        flagged: f.flagged,
-        duration: f.duration,
         pts: plus(f.pts, offset),
         dts: plus(f.dts, offset),
+        ..f
     }
 }
 
@@ -162,16 +140,14 @@ fn step_two(h: Head, f: Offered) -> Offered
 pub fn stored_as(n: u32, group: u32, f: Offered) -> Frame
     ensures { result ≡ stored_as n group f }
 {
-    let pts = f.pts;
-    let dts = f.dts;
     Frame {
         track: f.track,
         flagged: f.flagged,
         duration: f.duration,
         number: n,
-        group: group,
-        pts: pts,
-        dts: dts,
+        group,
+        pts: f.pts,
+        dts: f.dts,
     }
 }
 
@@ -190,24 +166,21 @@ fn fits(h: Head, g: Offered) -> bool
     if !limits::result_time(g.pts) {
         return false;
     }
-    let s = h.settings;
-    let o = s.offset;
-    let times = limits::result_time(o.micros) & limits::result_time(g.dts);
+    let times = limits::result_time(h.settings.offset.micros) & limits::result_time(g.dts);
     times & limits::result_time(end_offered(g))
 }
 
-// Steps 1 and 2, and refusal 7's answer.
-fn pass(h: Head, f: Offered) -> Passed
+// Steps 1 and 2, unless they lead out of the result limits.
+fn pass(h: Head, f: Offered) -> Result<Passed, Refusal>
     requires { IsGoodHead h × (is_offerable f ≡ true) }
-    ensures { (b : Buffer) → h ≡ head_of b → result ≡ passed_as (pass_of b f) }
+    ensures { (b : Buffer) → h ≡ head_of b → result ≡ decided (first_decision b f) }
 {
     let g = step_one(h, f);
     let k = step_two(g, f);
-    Passed {
-        head: g,
-        frame: k,
-        fits: fits(g, k),
+    if !fits(g, k) {
+        return Err(Refusal::ResultLimits);
     }
+    Ok(Passed { head: g, frame: k })
 }
 
 // ---- step 3
@@ -217,9 +190,8 @@ fn latest(t: Track) -> i64
     requires { good_track t ≡ true }
     ensures { result ≡ t.dts +ℤ pos (2 * t.duration) }
 {
-    let d = t.dts;
     let n = 2 * (t.duration as u64);
-    d + n as i64
+    t.dts + n as i64
 }
 
 // D is below the last decode time, or exceeds it by more than twice the last duration.
@@ -240,63 +212,23 @@ fn breaks(h: Head, g: Offered) -> bool
     is_break(track_of(h, g.track), g.dts)
 }
 
-// A frame after step 2, and whether its first pass is the last and leaves the head as it is.
-#[derive(Clone, Copy)]
-pub struct Steady {
-    pub ok: bool,
-    pub frame: Offered,
-}
-
-// Where step 1 has nothing to do, no time leaves the limits and there is no break, no head need be made.
-pub fn steady_frame(h: Head, f: Offered) -> Steady
+// The frame after step 2, where its first pass is the last and leaves the head as it is: step 1 has nothing to do, no time leaves the limits
+// and there is no break, so that no head need be made.
+pub fn steady_frame(h: Head, f: Offered) -> Option<Offered>
     requires { IsGoodHead h × (is_offerable f ≡ true) × HasTrack h f.track }
-    ensures { (b : Buffer) → h ≡ head_of b → result.ok ≡ true → IsCalm b f result.frame }
+    ensures { (b : Buffer) → h ≡ head_of b → (g : Offered) → result ≡ Some g → IsCalm b f g }
 {
     if begins(h) {
-        return Steady {
-            ok: false,
-            frame: f,
-        };
+        return None;
     }
     let g = step_two(h, f);
     if !fits(h, g) {
-        return Steady {
-            ok: false,
-            frame: g,
-        };
+        return None;
     }
-    Steady {
-        ok: !breaks(h, g),
-        frame: g,
+    if breaks(h, g) {
+        return None;
     }
-}
-
-// What steps 1 to 3 come to: the head and the frame that step 4 goes on from, unless refusal 7 or 9 stops the frame.
-#[derive(Clone, Copy)]
-pub struct Decided {
-    pub head: Head,
-    pub frame: Offered,
-    pub stop: Stop,
-}
-
-fn stopped(h: Head, f: Offered, why: Refusal) -> Decided
-    ensures { result.stop ≡ By why }
-{
-    Decided {
-        head: h,
-        frame: f,
-        stop: Stop::By(why),
-    }
-}
-
-fn goes_on(h: Head, f: Offered) -> Decided
-    ensures { result ≡ record { head = h; frame = f; stop = Nothing } }
-{
-    Decided {
-        head: h,
-        frame: f,
-        stop: Stop::Nothing,
-    }
+    Some(g)
 }
 
 // After a break: the group moved, the three unset and need-random-access on for all tracks. The next group begins with it, but its number
@@ -305,66 +237,48 @@ fn moved(h: Head, p: i64) -> Head
     requires { h.ntracks ≤ 4 }
     ensures { (b : Buffer) → h ≡ head_of b → result ≡ head_of (moved b p) }
 {
-    let old = h.tracks;
-    let n = h.ntracks;
-    let mode = h.mode;
-    let g = h.group;
-    let settings = h.settings;
-    let tracks = tracks::restart_all(old, n);
-    let group = tracks::regroup(mode, g, p);
-    Head {
-        tracks: tracks,
-        ntracks: n,
-        nframes: h.nframes,
-        mode: mode,
-        group: group,
-        last: h.last,
-        settings: settings,
-    }
+    let tracks = tracks::restart_all(h.tracks, h.ntracks);
+    let group = tracks::regroup(h.mode, h.group, p);
+    Head { tracks, group, ..h }
 }
 
 fn in_next_group(h: Head) -> Head
     requires { h.group.number < last_group }
     ensures { (b : Buffer) → h ≡ head_of b → result ≡ head_of (in_next_group b) }
 {
-    let g = h.group;
-    let next = tracks::next_group(g);
-    Head { group: next, ..h }
+    Head {
+        group: tracks::next_group(h.group),
+        ..h
+    }
 }
 
 // After a break at p, the frame as offered begins again at 1, in the next group, if there is one.
-fn second_pass(h: Head, f: Offered, p: i64) -> Decided
+fn second_pass(h: Head, f: Offered, p: i64) -> Result<Passed, Refusal>
     requires { IsGoodHead h × (is_offerable f ≡ true) × (result_time p ≡ true) }
-    ensures { (b : Buffer) → h ≡ head_of b → DecidesAs result (second_decision b f p) }
+    ensures { (b : Buffer) → h ≡ head_of b → result ≡ decided (second_decision b f p) }
 {
-    let q = pass(moved(h, p), f);
-    if !q.fits {
-        return stopped(h, f, Refusal::ResultLimits);
-    }
+    let q = pass(moved(h, p), f)?;
     let k = q.head;
-    let g = k.group;
-    if g.number == LAST_GROUP {
-        return stopped(h, f, Refusal::LastNumber);
+    if k.group.number == LAST_GROUP {
+        return Err(Refusal::LastNumber);
     }
-    let again = q.frame;
-    goes_on(in_next_group(k), again)
+    Ok(Passed {
+        head: in_next_group(k),
+        ..q
+    })
 }
 
-// Both passes, refusal 7 of either, and refusal 9 of a second that begins a group after the last one.
-pub fn last_pass(h: Head, f: Offered) -> Decided
+// What steps 1 to 3 come to: the pass that step 4 goes on from, unless refusal 7 of either pass stops the frame, or refusal 9 of a second
+// that begins a group after the last one.
+pub fn last_pass(h: Head, f: Offered) -> Result<Passed, Refusal>
     requires { IsGoodHead h × (is_offerable f ≡ true) × HasTrack h f.track }
-    ensures { (b : Buffer) → h ≡ head_of b → DecidesAs result (decision b f) }
+    ensures { (b : Buffer) → h ≡ head_of b → result ≡ decided (decision b f) }
 {
-    let p = pass(h, f);
-    if !p.fits {
-        return stopped(h, f, Refusal::ResultLimits);
+    let p = pass(h, f)?;
+    if !breaks(p.head, p.frame) {
+        return Ok(p);
     }
-    let g = p.head;
-    let k = p.frame;
-    if !breaks(g, k) {
-        return goes_on(g, k);
-    }
-    second_pass(g, f, k.pts)
+    second_pass(p.head, f, p.frame.pts)
 }
 
 // ---- steps 4 to 6
@@ -385,12 +299,10 @@ pub fn drop_cause(h: Head, g: Offered) -> u32
     ensures { (b : Buffer) → h ≡ head_of b → result ≡ drop_cause (record { buffer = b; frame = g }) }
 {
     let s = h.settings;
-    let start = s.start;
-    let end = s.end;
-    if limits::below(g.pts, start.micros) {
+    if limits::below(g.pts, s.start.micros) {
         return 1;
     }
-    if past_window(end, s.limit, end_offered(g)) {
+    if past_window(s.end, s.limit, end_offered(g)) {
         return 2;
     }
     let t = track_of(h, g.track);
@@ -449,28 +361,21 @@ fn followed(t: Track, f: Offered) -> Track
     requires { result_time f.pts ≡ true }
     ensures { result ≡ followed t f }
 {
-    let dts = f.dts;
-    let end = highest(t, end_offered(f));
     Track {
-        kind: t.kind,
         known: true,
-        need: t.need,
         duration: f.duration,
-        dts: dts,
-        end: end,
+        dts: f.dts,
+        end: highest(t, end_offered(f)),
+        ..t
     }
 }
 
 fn group_raised(g: Group, e: i64) -> Group
     ensures { result ≡ with_end g (raised g.end e) }
 {
-    let start = g.start;
-    let end = raised(g.end, e);
     Group {
-        begun: g.begun,
-        start: start,
-        end: end,
-        number: g.number,
+        end: raised(g.end, e),
+        ..g
     }
 }
 

@@ -1,6 +1,7 @@
 -- What a reader may cite of segments in lumps. However a segment is cut, the call that is told the end lists or refuses as No. 1 on the whole
 -- (`as-whole`); until then every lump is taken, and nothing listed (`goes_on`); a movie fragment box that is too large is refused 14 exactly
 -- where its size is read (`large-exactly`); every reader handed out meets the condition (`handed-good`). Assumes nothing.
+use Rattle.std.specs.Prelude.{Ok, Err}
 use mathlib.Core.Path.{◌≡◌, refl, sym, ap, subst, ◌∙◌}
 use mathlib.Core.Bool.{Bool, true, false, not}
 use mathlib.Core.List.{List, [], ◌∷◌, ◌++◌}
@@ -13,7 +14,7 @@ use lib.Dec.{ltb}
 use Rattle.laws.proofs.BoolLaws.{by-test}
 use Rattle.boxes.specs.Boxes.{boxes_of}
 use Rattle.boxes.specs.Lone.{lone_in}
-use Rattle.buffer_state.specs.Refusals.{CallResult, refused, done, refuse_if}
+use Rattle.buffer_state.specs.Refusals.{CallResult, refuse_if}
 use Rattle.buffer_state.specs.declared.Refusal.{Refusal}
 use Rattle.buffer_state.specs.declared.Refusal.TheVariants as why
 use Rattle.segments.specs.Listings.{moof_kind}
@@ -45,22 +46,22 @@ record IsAccepted (r : LumpReader) (buffer l : List ℕ) (t : Taken) : Type 0 wh
 
 -- said of whatever a call gives
 abbrev AcceptedBy : LumpReader → List ℕ → List ℕ → CallResult Taken → Type 0
-AcceptedBy r buffer l (refused w) = Unit {0}
-AcceptedBy r buffer l (done t) = IsAccepted r buffer l t
+AcceptedBy r buffer l (Err w) = Unit {0}
+AcceptedBy r buffer l (Ok t) = IsAccepted r buffer l t
 
 accepted-by : (r : LumpReader) (buffer l : List ℕ) → AcceptedBy r buffer l (more_result r buffer l)
 unfolding more_result
 accepted-by r buffer l = go (good_reader r) (ltb (length buffer) most) (ltb most (length l)) (is_large (run (reading_of r buffer) l).doing) refl refl refl
   where
     go : (g b h e : Bool) → good_reader r ≡ g → ltb (length buffer) most ≡ b → is_large (run (reading_of r buffer) l).doing ≡ e
-        → AcceptedBy r buffer l (refuse_if (not g) why.IllFormed (refuse_if b why.LentSize (refuse_if h why.LentSize (refuse_if e why.LargeFragment (done (record { reading = run (reading_of r buffer) l; rows = [] }))))))
+        → AcceptedBy r buffer l (refuse_if (not g) why.IllFormed (refuse_if b why.LentSize (refuse_if h why.LentSize (refuse_if e why.LargeFragment (Ok (record { reading = run (reading_of r buffer) l; rows = [] }))))))
     go false b h e p q s = tt
     go true true h e p q s = tt
     go true false true e p q s = tt
     go true false false true p q s = tt
     go true false false false p q s = record { good = p; enough = q; small = s; after = refl }
 
-accepted : (r : LumpReader) (buffer l : List ℕ) (t : Taken) → more_result r buffer l ≡ done t → IsAccepted r buffer l t
+accepted : (r : LumpReader) (buffer l : List ℕ) (t : Taken) → more_result r buffer l ≡ Ok t → IsAccepted r buffer l t
 accepted r buffer l t e = subst (AcceptedBy r buffer l) e (accepted-by r buffer l)
 
 -- ---- what came
@@ -71,7 +72,7 @@ came-bytes m s r buffer (lump {s = s₀} {r = r₀} {buffer = buffer₀} l t c y
 
 -- after one more lump the reading is that of all bytes
 taken-reading : (s : List ℕ) (r : LumpReader) (buffer : List ℕ) → reading_of r buffer ≡ run fresh s → (l : List ℕ) (t : Taken)
-    → more_result r buffer l ≡ done t → t.reading ≡ run fresh (s ++ l)
+    → more_result r buffer l ≡ Ok t → t.reading ≡ run fresh (s ++ l)
 taken-reading s r buffer h l t e =
     ap (λ (x : Taken). x.reading) (accepted r buffer l t e).after
     ∙ ap (λ (x : Reading). run x l) h
@@ -133,13 +134,13 @@ module _ (m s : List ℕ) (r : LumpReader) (buffer : List ℕ) (c : Came m s r b
 
   -- "A larger movie fragment box is refused 14 as soon as its size is read": exactly in the call whose lump brings the last byte of it, whether
   -- the end is told or not
-  pub large-exactly : (last : Bool) → has_large (s ++ l) ≡ true → lump_result of places last r buffer l ≡ refused why.LargeFragment
+  pub large-exactly : (last : Bool) → has_large (s ++ l) ≡ true → lump_result of places last r buffer l ≡ Err why.LargeFragment
   large-exactly true h = last-large r buffer l passed of places (size ∙ h)
   large-exactly false h = more-large r buffer l passed (size ∙ h)
 
   -- "Until then nothing is listed": the lump is taken
-  pub goes_on : has_large (s ++ l) ≡ false → more_result r buffer l ≡ done (record { reading = run fresh (s ++ l); rows = [] })
-  goes_on h = more-taken r buffer l passed (size ∙ h) ∙ ap (λ (x : Reading). done (record { reading = x; rows = [] })) here
+  pub goes_on : has_large (s ++ l) ≡ false → more_result r buffer l ≡ Ok (record { reading = run fresh (s ++ l); rows = [] })
+  goes_on h = more-taken r buffer l passed (size ∙ h) ∙ ap (λ (x : Reading). Ok (record { reading = x; rows = [] })) here
 
   -- "the call told that no more comes, with a last lump or none, lists or refuses as No. 1 on the whole"
   pub as-whole : has_large (s ++ l) ≡ false → last_result of places r buffer l ≡ listing (list_segment of places (s ++ l))
@@ -159,8 +160,8 @@ pub data IsEarly : Refusal → Type 0 where
   fourteen : IsEarly why.LargeFragment
 
 abbrev pub IsQuiet : CallResult Taken → Type 0
-IsQuiet (refused w) = IsEarly w
-IsQuiet (done t) = t.rows ≡ []
+IsQuiet (Err w) = IsEarly w
+IsQuiet (Ok t) = t.rows ≡ []
 
 pub until-the-end : (r : LumpReader) (buffer l : List ℕ) → IsQuiet (more_result r buffer l)
 unfolding more_result
@@ -171,7 +172,7 @@ until-the-end r buffer l =
     (λ _. by-test IsQuiet (is_large (run (reading_of r buffer) l).doing) (λ _. fourteen) (λ _. refl))))
 
 -- "A lump of no bytes, no end told, changes nothing."
-module _ (r : LumpReader) (buffer : List ℕ) (head : length r.head ≡ 16) (t : Taken) (e : more_result r buffer [] ≡ done t) where
+module _ (r : LumpReader) (buffer : List ℕ) (head : length r.head ≡ 16) (t : Taken) (e : more_result r buffer [] ≡ Ok t) where
   fits : Fits r
   fits = good-fits r head (accepted r buffer [] t e).good
 

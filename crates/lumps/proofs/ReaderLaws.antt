@@ -2,17 +2,16 @@
 use mathlib.Core.Path.{◌≡◌, refl, sym, ap, ◌∙◌}
 use mathlib.Core.Bool.{Bool, true, false, ◌&&◌, ◌||◌}
 use mathlib.Core.List.{List, [], ◌∷◌, ◌++◌}
-use Prim.Native.Nat.{ℕ, zero, suc, ◌+◌, ◌-◌, ◌≤◌, ◌<◌}
+use Prim.Native.Nat.{ℕ, zero, suc, ◌+◌, ◌-◌, ◌≤◌}
 use native.Mathlib.Omega.{arith}
 use native.Mathlib.Decide.{dec_le}
-use native.Mathlib.Numerals.{add-one}
-use borrow.Author.Tests.{ltb-true, leb-true, eqb-true, le-leb, lt-ltb, eq-eqb, ne_eqb}
-use lib.ListN.{length, get_or, take, drop, replicate, length-drop, take-append-drop}
-use lib.Seq.{length-take-le, drop_at, drop-cons}
+use borrow.Author.Tests.{ltb-true, leb-true, eqb-true, le-leb, lt-ltb, eq-eqb}
+use lib.ListN.{length, take, drop, replicate, length-drop, take-append-drop}
+use lib.Seq.{length-take-le, drop_at}
 use lib.Dec.{ltb, leb, eqb}
 use Rattle.laws.proofs.BoolLaws.{both_ways, and_left, and_right, and_both, or_cases, or_left, or_right}
 use Rattle.boxes.specs.Boxes.{be4}
-use Rattle.buffer_state.specs.WellFormed.{all_of}
+use Rattle.std.specs.List.{list_all}
 use Rattle.lumps.specs.Readers.{reading_with, doing_of, laid_out, reader_of, most_kept, most_left, good_in, good_counts, good_reader}
 use Rattle.lumps.specs.Scans.{FitsIn, Fits}
 use Rattle.lumps.specs.declared.LumpReader.{LumpReader}
@@ -22,10 +21,9 @@ use Rattle.lumps.specs.declared.Phase.TheVariants.{Heading, Passing, Keeping, St
 -- ---- zeros
 
 abbrev zeros : List ℕ → Bool
-zeros = all_of (λ b. eqb b 0)
+zeros = list_all (λ b. eqb b 0)
 
 zeros-are : (l : List ℕ) → zeros l ≡ true → l ≡ replicate (length l) 0
-unfolding all_of
 zeros-are [] h = refl
 zeros-are (b ∷ l) h =
     let e = eqb-true b 0 (and_left (eqb b 0) (zeros l) h) in
@@ -33,21 +31,8 @@ zeros-are (b ∷ l) h =
     ap (λ (x : ℕ). x ∷ l) e ∙ ap (λ (x : List ℕ). 0 ∷ x) t
 
 are-zeros : (n : ℕ) → zeros (replicate n 0) ≡ true
-unfolding all_of
 are-zeros zero = refl
 are-zeros (suc n) = are-zeros n
-
--- from a place on: what stands there, then the rest
-module _ (l : List ℕ) (i : ℕ) (h : i < length l) where
-  from_place : zeros (drop i l) ≡ (eqb (get_or l i 0) 0 && zeros (drop (i + 1) l))
-  unfolding all_of
-  from_place = rw (drop-cons l i 0 h, add-one)
-
-  pub zeros-not : (get_or l i 0 ≡ 0 → ⊥) → zeros (drop i l) ≡ false
-  zeros-not n = from_place ∙ rw (ne_eqb (get_or l i 0) 0 n)
-
-  pub zeros-next : get_or l i 0 ≡ 0 → zeros (drop i l) ≡ zeros (drop (i + 1) l)
-  zeros-next e = from_place ∙ rw (eq-eqb (get_or l i 0) 0 e)
 
 -- ---- what is asked in a phase
 

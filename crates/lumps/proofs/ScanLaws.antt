@@ -17,7 +17,6 @@ use Rattle.lumps.specs.Scans.{FitsIn, Fits, Shows, body_of, part_of, Standing}
 use Rattle.lumps.specs.declared.LumpReader.{LumpReader}
 use Rattle.lumps.specs.declared.Phase.{Phase}
 use Rattle.lumps.specs.declared.Phase.TheVariants.{Heading, Passing, Keeping, Stuck, Large}
-use Rattle.lumps.specs.declared.Scan.{Scan}
 use Rattle.lumps.proofs.StretchLaws.{in_body, stretch-run, stuck-run, large-run}
 
 -- ---- the bytes that a lump adds
@@ -57,26 +56,26 @@ reads-keeping : (r : LumpReader) → r.phase ≡ Keeping → 0 < r.left → (kep
 reads-keeping r e h kept = reads_in r Keeping e kept ∙ rw (going-some (body_of true) r.left h)
 
 module _ (r : LumpReader) (lump : List ℕ) where
-  module _ (s : Scan) (st : Standing r lump s) where
+  module _ (here : LumpReader) (from next : ℕ) (st : Standing r lump here from next) where
     -- the bytes kept so far
     abbrev so_far : List ℕ → List ℕ
-    so_far kept = kept ++ part_of lump s.from (s.reader.kept - r.kept)
+    so_far kept = kept ++ part_of lump from (here.kept - r.kept)
 
-    so-far-length : (kept : List ℕ) → length kept ≡ r.kept → length (so_far kept) ≡ s.reader.kept
+    so-far-length : (kept : List ℕ) → length kept ≡ r.kept → length (so_far kept) ≡ here.kept
     so-far-length kept e =
-        length-append kept (part_of lump s.from (s.reader.kept - r.kept))
-        ∙ rw (part_length lump s.from (s.reader.kept - r.kept) st.part) (omega (arith, e, st.keeps))
+        length-append kept (part_of lump from (here.kept - r.kept))
+        ∙ rw (part_length lump from (here.kept - r.kept) st.part) (omega (arith, e, st.keeps))
 
     -- a reader that keeps no more has the same bytes
-    same-added : (q : LumpReader) → q.kept ≡ s.reader.kept → (kept : List ℕ) → reading_with q (so_far kept) ≡ reading_with q (kept ++ part_of lump s.from (q.kept - r.kept))
-    same-added q e kept = ap (λ (k : ℕ). reading_with q (kept ++ part_of lump s.from (k - r.kept))) (sym e)
+    same-added : (q : LumpReader) → q.kept ≡ here.kept → (kept : List ℕ) → reading_with q (so_far kept) ≡ reading_with q (kept ++ part_of lump from (q.kept - r.kept))
+    same-added q e kept = ap (λ (k : ℕ). reading_with q (kept ++ part_of lump from (k - r.kept))) (sym e)
 
     -- ---- a byte of a header
 
-    pub standing-header : (q : LumpReader) → s.next < length lump → s.reader.phase ≡ Heading
-        → Shows q s.reader.kept (λ k. stepping (heading (take s.reader.seen s.reader.head)) s.reader.fragments k (get_or lump s.next 0))
-        → (q.phase ≡ Keeping → s.reader.kept ≡ 0)
-        → Standing r lump (record { reader = q; from = s.from; next = s.next + 1 })
+    pub standing-header : (q : LumpReader) → next < length lump → here.phase ≡ Heading
+        → Shows q here.kept (λ k. stepping (heading (take here.seen here.head)) here.fragments k (get_or lump next 0))
+        → (q.phase ≡ Keeping → here.kept ≡ 0)
+        → Standing r lump q from (next + 1)
     standing-header q h p x first = record {
       within = omega arith;
       fits = x.fits;
@@ -87,18 +86,18 @@ module _ (r : LumpReader) (lump : List ℕ) where
     }
       where
         on : (kept : List ℕ) → length kept ≡ r.kept
-            → run (reading_with s.reader (so_far kept)) (drop s.next lump) ≡ run (reading_with q (kept ++ part_of lump s.from (q.kept - r.kept))) (drop (s.next + 1) lump)
+            → run (reading_with here (so_far kept)) (drop next lump) ≡ run (reading_with q (kept ++ part_of lump from (q.kept - r.kept))) (drop (next + 1) lump)
         on kept e =
-            let y : step (reading_with s.reader (so_far kept)) (get_or lump s.next 0) ≡ reading_with q (so_far kept) =
-            ap (λ (z : Reading). step z (get_or lump s.next 0)) (reads_in s.reader Heading p (so_far kept)) ∙ sym (x.reads (so_far kept) (so-far-length kept e)) in
-            let w : reading_with q (so_far kept) ≡ reading_with q (kept ++ part_of lump s.from (q.kept - r.kept)) = same-added q x.kept kept in
-            rw (drop-cons lump s.next 0 h, add-one) (ap (λ (z : Reading). run z (drop (suc s.next) lump)) (y ∙ w))
+            let y : step (reading_with here (so_far kept)) (get_or lump next 0) ≡ reading_with q (so_far kept) =
+            ap (λ (z : Reading). step z (get_or lump next 0)) (reads_in here Heading p (so_far kept)) ∙ sym (x.reads (so_far kept) (so-far-length kept e)) in
+            let w : reading_with q (so_far kept) ≡ reading_with q (kept ++ part_of lump from (q.kept - r.kept)) = same-added q x.kept kept in
+            rw (drop-cons lump next 0 h, add-one) (ap (λ (z : Reading). run z (drop (suc next) lump)) (y ∙ w))
 
     -- ---- a stretch of a body, passed over and kept
 
-    pub standing-passed : (q : LumpReader) (n : ℕ) → s.next < length lump → s.reader.phase ≡ Passing → n ≤ s.reader.left → n ≤ length lump - s.next
-        → Shows q s.reader.kept (in_body false s.reader.fragments (s.reader.left - n)) → (q.phase ≡ Keeping → ⊥)
-        → Standing r lump (record { reader = q; from = s.from; next = s.next + n })
+    pub standing-passed : (q : LumpReader) (n : ℕ) → next < length lump → here.phase ≡ Passing → n ≤ here.left → n ≤ length lump - next
+        → Shows q here.kept (in_body false here.fragments (here.left - n)) → (q.phase ≡ Keeping → ⊥)
+        → Standing r lump q from (next + n)
     standing-passed q n h p a b x never = record {
       within = omega arith;
       fits = x.fits;
@@ -109,18 +108,18 @@ module _ (r : LumpReader) (lump : List ℕ) where
     }
       where
         on : (kept : List ℕ) → length kept ≡ r.kept
-            → run (reading_with s.reader (so_far kept)) (drop s.next lump) ≡ run (reading_with q (kept ++ part_of lump s.from (q.kept - r.kept))) (drop (s.next + n) lump)
+            → run (reading_with here (so_far kept)) (drop next lump) ≡ run (reading_with q (kept ++ part_of lump from (q.kept - r.kept))) (drop (next + n) lump)
         on kept e =
-            let some = (FitsIn-phase s.reader Passing p st.fits).1 in
-            ap (λ (z : Reading). run z (drop s.next lump)) (reads-passing s.reader p some (so_far kept))
-            ∙ stretch-run false s.reader.fragments s.reader.left n (so_far kept) (drop s.next lump) a (rw (length-drop s.next lump) b)
-            ∙ rw (append-nil (so_far kept), drop-drop n s.next lump)
-            (ap (λ (z : Reading). run z (drop (s.next + n) lump)) (sym (x.reads (so_far kept) (so-far-length kept e)) ∙ same-added q x.kept kept))
+            let some = (FitsIn-phase here Passing p st.fits).1 in
+            ap (λ (z : Reading). run z (drop next lump)) (reads-passing here p some (so_far kept))
+            ∙ stretch-run false here.fragments here.left n (so_far kept) (drop next lump) a (rw (length-drop next lump) b)
+            ∙ rw (append-nil (so_far kept), drop-drop n next lump)
+            (ap (λ (z : Reading). run z (drop (next + n) lump)) (sym (x.reads (so_far kept) (so-far-length kept e)) ∙ same-added q x.kept kept))
 
-    pub standing-kept : (q : LumpReader) (n : ℕ) → s.next < length lump → s.reader.phase ≡ Keeping → n ≤ s.reader.left → n ≤ length lump - s.next
-        → (n < s.reader.left → s.next + n ≡ length lump)
-        → Shows q (s.reader.kept + n) (in_body true s.reader.fragments (s.reader.left - n)) → (q.phase ≡ Keeping → 0 < s.reader.left - n)
-        → Standing r lump (record { reader = q; from = s.next; next = s.next + n })
+    pub standing-kept : (q : LumpReader) (n : ℕ) → next < length lump → here.phase ≡ Keeping → n ≤ here.left → n ≤ length lump - next
+        → (n < here.left → next + n ≡ length lump)
+        → Shows q (here.kept + n) (in_body true here.fragments (here.left - n)) → (q.phase ≡ Keeping → 0 < here.left - n)
+        → Standing r lump q next (next + n)
     standing-kept q n h p a b all x some = record {
       within = omega arith;
       fits = x.fits;
@@ -135,42 +134,42 @@ module _ (r : LumpReader) (lump : List ℕ) where
 
         -- nothing was added before
         first : (kept : List ℕ) → so_far kept ≡ kept
-        first kept = let g : s.reader.kept - r.kept ≡ 0 = omega (arith, st.once p h) in rw g (append-nil kept)
+        first kept = let g : here.kept - r.kept ≡ 0 = omega (arith, st.once p h) in rw g (append-nil kept)
 
         on : (kept : List ℕ) → length kept ≡ r.kept
-            → run (reading_with s.reader (so_far kept)) (drop s.next lump) ≡ run (reading_with q (kept ++ part_of lump s.next (q.kept - r.kept))) (drop (s.next + n) lump)
+            → run (reading_with here (so_far kept)) (drop next lump) ≡ run (reading_with q (kept ++ part_of lump next (q.kept - r.kept))) (drop (next + n) lump)
         on kept e =
-            let t = part_of lump s.next n in
-            let l : length (kept ++ t) ≡ s.reader.kept + n = length-append kept t ∙ rw (part_length lump s.next n (omega arith)) (omega (arith, e, st.once p h)) in
-            ap (λ (z : List ℕ). run (reading_with s.reader z) (drop s.next lump)) (first kept)
-            ∙ ap (λ (z : Reading). run z (drop s.next lump)) (reads-keeping s.reader p (FitsIn-phase s.reader Keeping p st.fits).1 kept)
-            ∙ stretch-run true s.reader.fragments s.reader.left n kept (drop s.next lump) a (rw (length-drop s.next lump) b)
-            ∙ rw (added, drop-drop n s.next lump) (ap (λ (z : Reading). run z (drop (s.next + n) lump)) (sym (x.reads (kept ++ t) l)))
+            let t = part_of lump next n in
+            let l : length (kept ++ t) ≡ here.kept + n = length-append kept t ∙ rw (part_length lump next n (omega arith)) (omega (arith, e, st.once p h)) in
+            ap (λ (z : List ℕ). run (reading_with here z) (drop next lump)) (first kept)
+            ∙ ap (λ (z : Reading). run z (drop next lump)) (reads-keeping here p (FitsIn-phase here Keeping p st.fits).1 kept)
+            ∙ stretch-run true here.fragments here.left n kept (drop next lump) a (rw (length-drop next lump) b)
+            ∙ rw (added, drop-drop n next lump) (ap (λ (z : Reading). run z (drop (next + n) lump)) (sym (x.reads (kept ++ t) l)))
 
     -- ---- where nothing counts any more
 
-    module _ (p : Phase) (e : s.reader.phase ≡ p) (not : (p ≡ Keeping → ⊥))
-        (idle : (n : ℕ) (kept t : List ℕ) → run (record { doing = doing_of p s.reader; fragments = n; kept = kept }) t ≡ record { doing = doing_of p s.reader; fragments = n; kept = kept }) where
-      standing-idle : Standing r lump (record { reader = s.reader; from = s.from; next = length lump })
+    module _ (p : Phase) (e : here.phase ≡ p) (not : (p ≡ Keeping → ⊥))
+        (idle : (n : ℕ) (kept t : List ℕ) → run (record { doing = doing_of p here; fragments = n; kept = kept }) t ≡ record { doing = doing_of p here; fragments = n; kept = kept }) where
+      standing-idle : Standing r lump here from (length lump)
       standing-idle = record {
         within = omega arith;
         fits = st.fits;
         keeps = st.keeps;
         part = st.part;
         once = λ f _. absurd (not (sym e ∙ f));
-        left = λ kept f. st.left kept f ∙ on kept (drop s.next lump) ∙ sym (on kept (drop (length lump) lump));
+        left = λ kept f. st.left kept f ∙ on kept (drop next lump) ∙ sym (on kept (drop (length lump) lump));
       }
         where
-          on : (kept t : List ℕ) → run (reading_with s.reader (so_far kept)) t ≡ record { doing = doing_of p s.reader; fragments = s.reader.fragments; kept = so_far kept }
-          on kept t = ap (λ (z : Reading). run z t) (reads_in s.reader p e (so_far kept)) ∙ idle s.reader.fragments (so_far kept) t
+          on : (kept t : List ℕ) → run (reading_with here (so_far kept)) t ≡ record { doing = doing_of p here; fragments = here.fragments; kept = so_far kept }
+          on kept t = ap (λ (z : Reading). run z t) (reads_in here p e (so_far kept)) ∙ idle here.fragments (so_far kept) t
 
-    pub standing-stuck : s.reader.phase ≡ Stuck → Standing r lump (record { reader = s.reader; from = s.from; next = length lump })
+    pub standing-stuck : here.phase ≡ Stuck → Standing r lump here from (length lump)
     standing-stuck e = standing-idle Stuck e (λ f. let z : ◌≡◌ {A = ℕ} 0 1 = cc in absurd (omega arith)) stuck-run
 
-    pub standing-large : s.reader.phase ≡ Large → Standing r lump (record { reader = s.reader; from = s.from; next = length lump })
+    pub standing-large : here.phase ≡ Large → Standing r lump here from (length lump)
     standing-large e = standing-idle Large e (λ f. let z : ◌≡◌ {A = ℕ} 0 1 = cc in absurd (omega arith)) large-run
 
     -- ---- the end
 
-    pub standing-end : s.next ≡ length lump → (kept : List ℕ) → length kept ≡ r.kept → run (reading_with r kept) lump ≡ reading_with s.reader (so_far kept)
-    standing-end e kept f = st.left kept f ∙ ap (run (reading_with s.reader (so_far kept))) (drop_of_length-le lump {i = s.next} (omega arith))
+    pub standing-end : next ≡ length lump → (kept : List ℕ) → length kept ≡ r.kept → run (reading_with r kept) lump ≡ reading_with here (so_far kept)
+    standing-end e kept f = st.left kept f ∙ ap (run (reading_with here (so_far kept))) (drop_of_length-le lump {i = next} (omega arith))

@@ -4,9 +4,8 @@ use mathlib.Core.Bool.{true, false}
 use mathlib.Core.List.{List, [], ◌∷◌, ◌++◌, map}
 use Prim.Native.Nat.{ℕ}
 use lib.ListN.{replicate, take}
-use Rattle.boxes.specs.Boxes.{be4, be8, skipping}
-use Rattle.boxes.specs.Lone.{none, lone}
-use Rattle.buffer_state.specs.WellFormed.{all_of}
+use Rattle.std.specs.Prelude.{Ok}
+use Rattle.boxes.specs.Boxes.{be4, be8, refused, skipping}
 use Rattle.lumps.specs.LargeFragments.{large_past}
 use Rattle.lumps.specs.Readers.{reader_of, good_reader}
 use Rattle.lumps.specs.Readings.{heading, passing, keeping, stuck, large, fresh, run, Told, too_large, framed, tell}
@@ -66,22 +65,22 @@ segments =
 
 abbrev answers : List Told
 answers =
-    framed (lone (7 ∷ 9 ∷ []))
-    ∷ framed none
-    ∷ framed none
-    ∷ framed none
-    ∷ framed none
-    ∷ framed none
-    ∷ framed none
-    ∷ framed none
-    ∷ framed none
-    ∷ framed none
-    ∷ framed none
+    framed (Ok (7 ∷ 9 ∷ []))
+    ∷ framed refused
+    ∷ framed refused
+    ∷ framed refused
+    ∷ framed refused
+    ∷ framed refused
+    ∷ framed refused
+    ∷ framed refused
+    ∷ framed refused
+    ∷ framed refused
+    ∷ framed refused
     ∷ too_large
     ∷ too_large
     ∷ too_large
-    ∷ framed none
-    ∷ framed none
+    ∷ framed refused
+    ∷ framed refused
     ∷ []
 
 pub as-whole : map whole_told segments ≡ answers
@@ -106,7 +105,7 @@ zeros = replicate 16 0
 
 -- those that bytes lead to
 pub good : map (λ s. good_reader (reader_of (run fresh s))) ([] ∷ take 5 free ∷ take 15 wide ∷ take 17 wide ∷ take 9 moof ∷ (moof ++ (moof ++ moof)) ∷ size_zero ∷ largest ∷ []) ≡ replicate 8 true
-unfolding be4 be8 good_reader all_of
+unfolding be4 be8 good_reader
 good = refl
 
 -- and one for each clause that fails it: a whole header, a header of 8 bytes without a 64-bit size, a byte past those met, bytes to come in a
@@ -129,5 +128,5 @@ pub ill : map good_reader
     ∷ record { phase = Large; head = zeros; seen = 0; left = 0; fragments = 0; kept = 0 }
     ∷ [])
     ≡ replicate 14 false
-unfolding be4 good_reader all_of
+unfolding be4 good_reader
 ill = refl

@@ -11,10 +11,11 @@ use lib.ListN.{length, take, drop, length-append, length-drop, get_or-append}
 use lib.Seq.{drop_at, drop-append-add, drop-append-le}
 use lib.Dec.{ltb, eqb}
 use Rattle.laws.proofs.BoolLaws.{by-test}
-use Rattle.boxes.specs.Boxes.{be4, be8, sized_of, front_of, Mp4Box, Boxes, refused, boxes, onto, skipping, boxes_of}
-use Rattle.boxes.specs.Lone.{none, lone, lone_in}
+use Rattle.std.specs.Prelude.{Some, Result, Ok, Err}
+use Rattle.boxes.specs.Boxes.{be4, be8, sized_of, front_of, Mp4Box, refused, onto, skipping, boxes_of}
+use Rattle.boxes.specs.Lone.{lone_in}
 use Rattle.boxes.specs.declared.Header.{Header}
-use Rattle.boxes.specs.declared.Front.TheVariants.{Bad, Found}
+use Rattle.boxes.specs.declared.Malformed.{Malformed}
 use Rattle.boxes.proofs.BoxLaws.{skipping-drop, boxes-found, boxes-bad}
 use Rattle.boxes.proofs.LoneLaws.{bodies_of, the_only, lone-by-itself}
 use Rattle.segments.specs.Listings.{moof_kind}
@@ -23,20 +24,20 @@ use Rattle.lumps.specs.Readings.{most, Doing, heading, passing, keeping, stuck, 
 use Rattle.lumps.specs.declared.Begun.{Begun}
 
 abbrev broken : Told
-broken = framed none
+broken = framed refused
 
 -- WHAT THE BYTES THAT ARE LEFT SAY
 
 -- where n movie fragments were met, with the first one's body kept, and these bodies come after
 abbrev judged : ℕ → List ℕ → List (List ℕ) → Told
 judged zero kept l = framed (the_only l)
-judged (suc zero) kept [] = framed (lone kept)
+judged (suc zero) kept [] = framed (Ok kept)
 judged (suc zero) kept (b ∷ l) = broken
 judged (suc (suc n)) kept l = broken
 
-abbrev judged_in : ℕ → List ℕ → Boxes → Told
-judged_in n kept refused = broken
-judged_in n kept (boxes l) = judged n kept (bodies_of moof_kind l)
+abbrev judged_in : ℕ → List ℕ → Result (List Mp4Box) Malformed → Told
+judged_in n kept (Err m) = broken
+judged_in n kept (Ok l) = judged n kept (bodies_of moof_kind l)
 
 -- the same in a body that is kept, with k bytes of it still to come
 keep_on : ℕ → List ℕ → List ℕ → ℕ → Told
@@ -227,7 +228,7 @@ module _ (l : List ℕ) (h size : ℕ) (x : IsHeaded l h size) (s : List ℕ) wh
       let w : length (l ++ s) ≡ h + length s = rw (length-append, x.bytes) in
       let a : 8 ≤ length l = omega (arith, x.bytes, x.least) in
       let g : Header = record { kind = be4 (drop 4 (l ++ s)); length = h; size = size } in
-      let f : front_of (l ++ s) ≡ Found g = x.front s ∙ simp (le-leb h size u, le-leb size (length (l ++ s)) (omega arith)) in
+      let f : front_of (l ++ s) ≡ Ok (Some g) = x.front s ∙ simp (le-leb h size u, le-leb size (length (l ++ s)) (omega arith)) in
       let d₁ : drop h (l ++ s) ≡ s = drop_at l s h x.bytes in
       let z : size ≡ length l + (size - h) = omega (arith, x.bytes) in
       let d₂ : drop size (l ++ s) ≡ drop (size - h) s = ap (λ (n : ℕ). drop n (l ++ s)) z ∙ drop-append-add l s (size - h) in
@@ -237,21 +238,21 @@ module _ (l : List ℕ) (h size : ℕ) (x : IsHeaded l h size) (s : List ℕ) wh
 
 -- one more box
 module _ (kept : List ℕ) (x : Mp4Box) where
-  judged-other : (n : ℕ) (y : Boxes) → (x.kind ≡ moof_kind → ⊥) → judged_in n kept (onto x y) ≡ judged_in n kept y
-  judged-other n refused e = refl
-  judged-other n (boxes l) e = rw (ne_eqb x.kind moof_kind e)
+  judged-other : (n : ℕ) (y : Result (List Mp4Box) Malformed) → (x.kind ≡ moof_kind → ⊥) → judged_in n kept (onto x y) ≡ judged_in n kept y
+  judged-other n (Err m) e = refl
+  judged-other n (Ok l) e = rw (ne_eqb x.kind moof_kind e)
 
-  judged-first : (y : Boxes) → x.kind ≡ moof_kind → judged_in 0 kept (onto x y) ≡ judged_in 1 x.body y
-  judged-first refused e = refl
-  judged-first (boxes l) e = rw (eq-eqb x.kind moof_kind e) (first (bodies_of moof_kind l))
+  judged-first : (y : Result (List Mp4Box) Malformed) → x.kind ≡ moof_kind → judged_in 0 kept (onto x y) ≡ judged_in 1 x.body y
+  judged-first (Err m) e = refl
+  judged-first (Ok l) e = rw (eq-eqb x.kind moof_kind e) (first (bodies_of moof_kind l))
     where
       first : (bs : List (List ℕ)) → framed (the_only (x.body ∷ bs)) ≡ judged 1 x.body bs
       first [] = refl
       first (b ∷ bs) = refl
 
-  judged-later : (n : ℕ) (y : Boxes) → x.kind ≡ moof_kind → judged_in (suc n) kept (onto x y) ≡ judged_in 2 kept y
-  judged-later n refused e = refl
-  judged-later n (boxes l) e = rw (eq-eqb x.kind moof_kind e) (later n)
+  judged-later : (n : ℕ) (y : Result (List Mp4Box) Malformed) → x.kind ≡ moof_kind → judged_in (suc n) kept (onto x y) ≡ judged_in 2 kept y
+  judged-later n (Err m) e = refl
+  judged-later n (Ok l) e = rw (eq-eqb x.kind moof_kind e) (later n)
     where
       later : (m : ℕ) → judged (suc m) kept (x.body ∷ bodies_of moof_kind l) ≡ broken
       later zero = refl
@@ -429,7 +430,7 @@ goes large n kept b s w = (tt, refl)
 stray : (l : List ℕ) → IsPartial (heading l) → 0 < length l → boxes_of l ≡ refused
 stray l w h = boxes-bad l (go (dec_le 8 (length l)))
   where
-    go : Dec (8 ≤ length l) → front_of l ≡ Bad
+    go : Dec (8 ≤ length l) → front_of l ≡ refused
     go (yes k) =
         let t₀ : eqb (length l) 0 ≡ false = ne_eqb (length l) 0 (λ z. omega arith) in
         let t₁ : ltb (length l) 8 ≡ false = le-ltb (length l) 8 k in
@@ -485,6 +486,6 @@ whole_told s = unless_large (has_large s) (framed (lone_in moof_kind moof_kind (
 pub whole_told_lem : (s : List ℕ) → tell (run fresh s) ≡ whole_told s
 whole_told_lem s = told-from s (heading []) 0 [] none-waiting ∙ ap (unless_large (has_large s)) (sym (start (boxes_of s)))
   where
-    start : (x : Boxes) → framed (lone_in moof_kind moof_kind x) ≡ judged_in 0 [] x
-    start refused = refl
-    start (boxes l) = ap framed (lone-by-itself moof_kind l)
+    start : (x : Result (List Mp4Box) Malformed) → framed (lone_in moof_kind moof_kind x) ≡ judged_in 0 [] x
+    start (Err m) = refl
+    start (Ok l) = ap framed (lone-by-itself moof_kind l)

@@ -1,14 +1,9 @@
 -- What the inner functions of a lump promise.
 use Rattle.std.specs.Prelude.{◌≡◌, Bool, false, ◌&&◌, ◌≤◌, eqb}
-use Rattle.buffer_state.specs.declared.Count.{Count}
-use Rattle.buffer_state.specs.declared.Count.TheVariants.{Done, Refused}
-use Rattle.buffer_state.specs.declared.Refusal.{Refusal}
 use Rattle.segments.specs.Listings.{moof_kind}
-use Rattle.lumps.specs.Readings.{fresh}
-use Rattle.lumps.specs.Readers.{reader_of, most_kept, most_left}
+use Rattle.lumps.specs.Readers.{most_kept, most_left}
 use Rattle.lumps.specs.declared.Begun.{Begun}
 use Rattle.lumps.specs.declared.Begun.TheVariants.{More, Stuck, Large, Opens}
-use Rattle.lumps.specs.declared.Lumped.{Lumped}
 use Rattle.lumps.specs.declared.LumpReader.{LumpReader}
 use Rattle.lumps.specs.declared.Phase.{Phase}
 use Rattle.lumps.specs.declared.Phase.TheVariants as phase
@@ -27,11 +22,3 @@ whole_in phase.Passing r = false
 whole_in phase.Keeping r = false
 whole_in phase.Stuck r = false
 whole_in phase.Large r = false
-
--- an answer with the reader: after a refusal the one that was handed in, after a listing a fresh one
-abbrev pub refused_by : LumpReader → Refusal → Lumped
-refused_by r why = record { answer = Refused why; reader = r }
-
-abbrev pub listed_by : LumpReader → Count → Lumped
-listed_by r (Done n) = record { answer = Done n; reader = reader_of fresh }
-listed_by r (Refused why) = refused_by r why

@@ -1,14 +1,12 @@
 -- Document 02, No. 5: what a call gives that is handed a reader, the lent buffer, a lump and whether this is the end. "Order 1, 13, 14, then
 -- No. 1's."
-use Rattle.std.specs.Prelude.{Bool, cond, not, List, [], ◌++◌, ℕ, ℤ, length, drop, ltb}
-use Rattle.buffer_state.specs.Refusals.{CallResult, refused, done, refuse_if}
-use Rattle.buffer_state.specs.declared.Count.TheVariants.{Done, Refused}
+use Rattle.std.specs.Prelude.{Bool, cond, not, List, [], ◌++◌, ℕ, ℤ, length, drop, ltb, Ok, Err}
+use Rattle.buffer_state.specs.Refusals.{CallResult, refuse_if}
 use Rattle.buffer_state.specs.declared.Refusal.TheVariants.{IllFormed, LentSize, LargeFragment}
 use Rattle.segments.specs.Segments.{listed_lone}
 use Rattle.segments.specs.declared.SegmentTrack.{SegmentTrack}
 use Rattle.lumps.specs.Readings.{most, Reading, fresh, run, Told, too_large, framed, tell, is_large}
 use Rattle.lumps.specs.Readers.{reading_of, reader_of, kept_in, good_reader}
-use Rattle.lumps.specs.declared.Lumped.{Lumped}
 use Rattle.lumps.specs.declared.LumpReader.{LumpReader}
 
 -- the reading after the call, and the rows that it lists
@@ -18,16 +16,16 @@ pub record Taken : Type 0 where
 
 -- the end not told: "until then nothing is listed"
 abbrev pub goes_on : Reading → CallResult Taken
-goes_on x = refuse_if (is_large x.doing) LargeFragment (done (record { reading = x; rows = [] }))
+goes_on x = refuse_if (is_large x.doing) LargeFragment (Ok (record { reading = x; rows = [] }))
 
 -- the end told: "lists or refuses as No. 1", by the one movie fragment; "listing leaves the reader fresh"
 abbrev pub rows_told : SegmentTrack → ℕ → Told → CallResult (List (List ℤ))
-rows_told of places too_large = refused LargeFragment
+rows_told of places too_large = Err LargeFragment
 rows_told of places (framed x) = listed_lone of places x
 
 abbrev pub listing : CallResult (List (List ℤ)) → CallResult Taken
-listing (refused why) = refused why
-listing (done rows) = done (record { reading = fresh; rows = rows })
+listing (Err why) = Err why
+listing (Ok rows) = Ok (record { reading = fresh; rows = rows })
 
 abbrev pub ends : SegmentTrack → ℕ → Reading → CallResult Taken
 ends of places x = listing (rows_told of places (tell x))
@@ -51,14 +49,19 @@ lump_result of places last r buffer lump = cond last (last_result of places r bu
 
 -- ---- the answer, and what reader, buffer and frame list hold after it: after a refusal what they held
 
-abbrev pub lumped_of : LumpReader → CallResult Taken → Lumped
-lumped_of r (refused why) = record { answer = Refused why; reader = r }
-lumped_of r (done t) = record { answer = Done (length t.rows); reader = reader_of t.reading }
+-- how many frames are listed
+abbrev pub taken_count : CallResult Taken → CallResult ℕ
+taken_count (Err why) = Err why
+taken_count (Ok t) = Ok (length t.rows)
+
+abbrev pub reader_after : CallResult Taken → LumpReader → LumpReader
+reader_after (Err why) r = r
+reader_after (Ok t) r = reader_of t.reading
 
 abbrev pub buffer_after : CallResult Taken → List ℕ → List ℕ
-buffer_after (refused why) buffer = buffer
-buffer_after (done t) buffer = kept_in t.reading buffer
+buffer_after (Err why) buffer = buffer
+buffer_after (Ok t) buffer = kept_in t.reading buffer
 
 abbrev pub frames_after : CallResult Taken → List (List ℤ) → List (List ℤ)
-frames_after (refused why) list = list
-frames_after (done t) list = t.rows ++ drop (length t.rows) list
+frames_after (Err why) list = list
+frames_after (Ok t) list = t.rows ++ drop (length t.rows) list

@@ -1,8 +1,8 @@
--- Document 02, No. 5: a reading as it is handed from call to call, a reader by value and the first bytes of a lent buffer; and the condition
+-- Document 02, No. 5: a reading as it goes from call to call, a lent reader and the first bytes of a lent buffer; and the condition
 -- that every reader handed out meets, "1 is given exactly when a condition of yours fails".
 use Rattle.std.specs.Prelude.{Bool, false, ◌&&◌, ◌||◌, List, ◌++◌, ℕ, ◌+◌, ◌-◌, length, take, drop, replicate, ltb, leb, eqb}
 use Rattle.boxes.specs.Boxes.{be4}
-use Rattle.buffer_state.specs.WellFormed.{all_of}
+use Rattle.std.specs.List.{list_all}
 use Rattle.lumps.specs.Readings.{Doing, heading, passing, keeping, stuck, large, Reading}
 use Rattle.lumps.specs.declared.LumpReader.{LumpReader}
 use Rattle.lumps.specs.declared.Phase.{Phase}
@@ -71,7 +71,7 @@ good_in Large r = false
 -- and in all: zeros stand after the header bytes met; two stands for every number of movie fragments above one; what is kept is a movie
 -- fragment's
 abbrev pub good_counts : LumpReader → Bool
-good_counts r = all_of (λ b. eqb b 0) (drop r.seen r.head) && (leb r.fragments 2 && (leb r.kept most_kept && (ltb 0 r.fragments || eqb r.kept 0)))
+good_counts r = list_all (λ b. eqb b 0) (drop r.seen r.head) && (leb r.fragments 2 && (leb r.kept most_kept && (ltb 0 r.fragments || eqb r.kept 0)))
 
 unfoldable pub good_reader : LumpReader → Bool
 good_reader r = good_counts r && good_in r.phase r

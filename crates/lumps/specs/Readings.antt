@@ -1,9 +1,9 @@
 -- Document 02, No. 5, "The radio link cuts segments anywhere": a machine over bytes. A reading goes on with each byte (`step`), and a lump is
 -- the fold of it (`run`), so that it makes no difference where a segment is cut (`run-append`). What it tells after all bytes is what the
 -- whole segment says (`whole_told_lem`). The body of the one movie fragment is kept; every other body is counted and not kept.
-use Rattle.std.specs.Prelude.{Bool, true, false, cond, List, [], ◌∷◌, ◌++◌, ℕ, zero, suc, ◌-◌, length, drop, ltb, eqb}
-use Rattle.boxes.specs.Boxes.{be4, be8}
-use Rattle.boxes.specs.Lone.{Lone, none, lone}
+use Rattle.std.specs.Prelude.{Bool, true, false, cond, List, [], ◌∷◌, ◌++◌, ℕ, zero, suc, ◌-◌, length, drop, ltb, eqb, Result, Ok}
+use Rattle.boxes.specs.Boxes.{be4, be8, refused}
+use Rattle.boxes.specs.declared.Malformed.{Malformed}
 use Rattle.segments.specs.Listings.{moof_kind}
 use Rattle.lumps.specs.declared.Begun.{Begun}
 use Rattle.lumps.specs.declared.Begun.TheVariants.{More, Stuck, Large, Opens}
@@ -88,20 +88,20 @@ run r (b ∷ s) = run (step r b) s
 -- of boxes
 pub data Told : Type 0 where
   too_large : Told
-  framed : Lone → Told
+  framed : Result (List ℕ) Malformed → Told
 
-abbrev pub verdict : ℕ → List ℕ → Lone
-verdict zero kept = none
-verdict (suc zero) kept = lone kept
-verdict (suc (suc n)) kept = none
+abbrev pub verdict : ℕ → List ℕ → Result (List ℕ) Malformed
+verdict zero kept = refused
+verdict (suc zero) kept = Ok kept
+verdict (suc (suc n)) kept = refused
 
 -- only between two boxes is a segment whole
 abbrev pub telling : Doing → ℕ → List ℕ → Told
 telling (heading []) n kept = framed (verdict n kept)
-telling (heading (b ∷ l)) n kept = framed none
-telling (passing k) n kept = framed none
-telling (keeping k) n kept = framed none
-telling stuck n kept = framed none
+telling (heading (b ∷ l)) n kept = framed refused
+telling (passing k) n kept = framed refused
+telling (keeping k) n kept = framed refused
+telling stuck n kept = framed refused
 telling large n kept = too_large
 
 abbrev pub tell : Reading → Told

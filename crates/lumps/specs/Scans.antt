@@ -1,10 +1,9 @@
 -- What the code knows while it goes through a lump. Only inner functions speak of it. A lump is gone through once, and nothing is written: where
 -- it leads to does not depend on the bytes that are kept, and those that it adds to them stand in one stretch.
-use Rattle.std.specs.Prelude.{◌≡◌, Bool, true, false, List, ◌++◌, ℕ, ◌+◌, ◌-◌, ◌≤◌, ◌<◌, length, take, drop, replicate, ltb}
+use Rattle.std.specs.Prelude.{◌≡◌, Bool, true, false, List, ◌++◌, ℕ, ◌+◌, ◌-◌, ◌≤◌, ◌<◌, length, take, drop, replicate, ltb, Err}
+use mathlib.Core.Sum.{⊎_set}
+use denote.Struct.Props.{props}
 use Rattle.boxes.specs.Boxes.{be4}
-use Rattle.buffer_state.specs.Refusals.{refused}
-use Rattle.buffer_state.specs.declared.Answer.{Answer}
-use Rattle.buffer_state.specs.declared.Answer.TheVariants as answer
 use Rattle.buffer_state.specs.declared.Refusal.{Refusal}
 use Rattle.segments.specs.declared.SegmentTrack.{SegmentTrack}
 use Rattle.lumps.specs.Lumps.{more_result, last_result}
@@ -13,8 +12,6 @@ use Rattle.lumps.specs.Readers.{doing_of, reading_with, most_kept, most_left, go
 use Rattle.lumps.specs.declared.LumpReader.{LumpReader}
 use Rattle.lumps.specs.declared.Phase.{Phase}
 use Rattle.lumps.specs.declared.Phase.TheVariants.{Heading, Passing, Keeping, Stuck, Large}
-use Rattle.lumps.specs.declared.Scan.{Scan}
-use Rattle.lumps.specs.declared.Tried.{Tried}
 
 -- the condition on readers as facts; past a movie fragment that is too large a scan may stand
 abbrev pub FitsIn : Phase → LumpReader → Type 0
@@ -49,42 +46,50 @@ part_of lump at n = take n (drop at lump)
 
 -- A scan from the reader r stands: what the lump leads to is what the rest of it leads to from here, with the bytes kept before and those that
 -- the lump has added.
-pub record Standing (r : LumpReader) (lump : List ℕ) (s : Scan) : Type 0 where
-  pub within : s.next ≤ length lump
-  pub fits : Fits s.reader
-  pub keeps : r.kept ≤ s.reader.kept
-  pub part : s.from + (s.reader.kept - r.kept) ≤ length lump
+pub record Standing (r : LumpReader) (lump : List ℕ) (here : LumpReader) (from next : ℕ) : Type 0 where
+  pub within : next ≤ length lump
+  pub fits : Fits here
+  pub keeps : r.kept ≤ here.kept
+  pub part : from + (here.kept - r.kept) ≤ length lump
   -- a body is kept in one stretch of a lump
-  pub once : s.reader.phase ≡ Keeping → s.next < length lump → s.reader.kept ≡ r.kept
+  pub once : here.phase ≡ Keeping → next < length lump → here.kept ≡ r.kept
   pub left : (kept : List ℕ) → length kept ≡ r.kept
-      → run (reading_with r kept) lump ≡ run (reading_with s.reader (kept ++ part_of lump s.from (s.reader.kept - r.kept))) (drop s.next lump)
+      → run (reading_with r kept) lump ≡ run (reading_with here (kept ++ part_of lump from (here.kept - r.kept))) (drop next lump)
+
+-- there is one way to say so
+pub FitsIn-prop : (p : Phase) (r : LumpReader) → IsProp (FitsIn p r)
+FitsIn-prop Heading r = hlevel props
+FitsIn-prop Passing r = hlevel props
+FitsIn-prop Keeping r = hlevel props
+FitsIn-prop Stuck r = hlevel props
+FitsIn-prop Large r = hlevel props
+
+pub Fits-prop : (r : LumpReader) → IsProp (Fits r)
+Fits-prop r = hlevel (props, FitsIn-prop)
+
+Reading_set : IsSet Reading
+Reading_set = hlevel (props, ⊎_set)
+
+pub Standing-prop : (r : LumpReader) (lump : List ℕ) (here : LumpReader) (from next : ℕ) → IsProp (Standing r lump here from next)
+Standing-prop r lump here from next = hlevel (props, Fits-prop, Reading_set)
 
 -- the bytes that are kept after it: those before, and those that the lump adds
-abbrev pub kept_by : LumpReader → Scan → List ℕ → List ℕ → List ℕ
-kept_by r s buffer lump = take r.kept buffer ++ part_of lump s.from (s.reader.kept - r.kept)
+abbrev pub kept_by : LumpReader → LumpReader → ℕ → List ℕ → List ℕ → List ℕ
+kept_by r here from buffer lump = take r.kept buffer ++ part_of lump from (here.kept - r.kept)
 
 -- A lump that was gone through, in a call that may take it.
-pub record Through (r : LumpReader) (buffer lump : List ℕ) (s : Scan) : Type 0 where
-  pub fits : Fits r
+pub record Through (buffer lump : List ℕ) (here : LumpReader) (next : ℕ) : Type 0 where
   pub room : most_kept ≤ length buffer
-  pub stands : Standing r lump s
-  pub whole : s.next ≡ length lump
-  pub small : is_large (doing_of s.reader.phase s.reader) ≡ false
+  pub whole : next ≡ length lump
+  pub small : is_large (doing_of here.phase here) ≡ false
 
--- What is known of a lump that was tried, whatever buffer of that room is lent: why it is not taken, or where it leads to.
-pub record Leads (r : LumpReader) (room : ℕ) (lump : List ℕ) (s : Scan) : Type 0 where
+-- What is known of a lump that was tried, whatever buffer of that room is lent: that it may be taken, or why it is not.
+pub record Leads (r : LumpReader) (room : ℕ) (lump : List ℕ) (here : LumpReader) (next : ℕ) : Type 0 where
   pub good : good_reader r ≡ true
   pub enough : ltb room most ≡ false
   pub few : ltb most (length lump) ≡ false
-  pub through : (buffer : List ℕ) → length buffer ≡ room → Through r buffer lump s
+  pub through : (buffer : List ℕ) → length buffer ≡ room → Through buffer lump here next
 
 pub record Refuses (r : LumpReader) (room : ℕ) (lump : List ℕ) (why : Refusal) : Type 0 where
-  pub more : (buffer : List ℕ) → length buffer ≡ room → more_result r buffer lump ≡ refused why
-  pub last : (buffer : List ℕ) → length buffer ≡ room → (of : SegmentTrack) (places : ℕ) → last_result of places r buffer lump ≡ refused why
-
-abbrev pub TriesBy : Answer → LumpReader → ℕ → List ℕ → Scan → Type 0
-TriesBy answer.Done r room lump s = Leads r room lump s
-TriesBy (answer.Refused why) r room lump s = Refuses r room lump why
-
-abbrev pub Tries : LumpReader → ℕ → List ℕ → Tried → Type 0
-Tries r room lump t = TriesBy t.answer r room lump t.scan
+  pub more : (buffer : List ℕ) → length buffer ≡ room → more_result r buffer lump ≡ Err why
+  pub last : (buffer : List ℕ) → length buffer ≡ room → (of : SegmentTrack) (places : ℕ) → last_result of places r buffer lump ≡ Err why

@@ -1,23 +1,21 @@
-// Document 02, No. 5: a segment in lumps, cut anywhere. A reader by value says how far the bytes have come, and a lent buffer keeps the
-// body of the movie fragment. A lump is first gone through without a write, so that a refused call takes nothing of it.
+// Document 02, No. 5: a segment in lumps, cut anywhere. A lent reader says how far the bytes have come, and a lent buffer keeps the body of
+// the movie fragment. A lump is first gone through without a write, so that a refused call takes nothing of it.
 #![tactic(auto)]
 
-ghost use Rattle.std.specs.Prelude.{◌≡◌, Bool, true, false, cond, List, [], ◌++◌, ℕ, ◌+◌, ◌-◌, ◌≤◌, ◌<◌, length, take, drop, leb, eqb};
-ghost use Rattle.buffer_state.specs.WellFormed.{all_of};
-ghost use Rattle.buffer_state.specs.declared.Answer.TheVariants as answer;
-ghost use Rattle.buffer_state.specs.declared.Count.TheVariants.{Done};
+ghost use Rattle.std.specs.Prelude.{IfOk, IfErr, ◌≡◌, Bool, true, false, cond, List, [], ◌++◌, ℕ, ◌+◌, ◌-◌, ◌≤◌, ◌<◌, length, take, drop, leb, eqb};
+ghost use Rattle.std.specs.List.{list_all};
 ghost use Rattle.segments.specs.Listings.{moof_kind};
 ghost use Rattle.segments.specs.Segments.{list_movie, row_count, rows_after};
-ghost use Rattle.lumps.specs.LumpAnswers.{IsBounded, whole_in, refused_by, listed_by};
-ghost use Rattle.lumps.specs.Lumps.{ends, more_result, last_result, lump_result, lumped_of, buffer_after, frames_after};
+ghost use Rattle.lumps.specs.LumpAnswers.{IsBounded, whole_in};
+ghost use Rattle.lumps.specs.Lumps.{ends, more_result, last_result, lump_result, taken_count, reader_after, buffer_after, frames_after};
 ghost use Rattle.lumps.specs.Readers.{doing_of, reading_of, reader_of, bare_reader, most_kept, most_left, good_in, good_counts, good_reader};
 ghost use Rattle.lumps.specs.Readings.{heading, going, fresh, opens_of, begun_of, begins, stepping, run, is_large};
-ghost use Rattle.lumps.specs.Scans.{Fits, FitsIn, Shows, body_of, kept_by, Standing, Through, Tries};
+ghost use Rattle.lumps.specs.Scans.{Fits, FitsIn, Shows, body_of, part_of, kept_by, Standing, Standing-prop, Through, Leads, Refuses};
 ghost use Rattle.lumps.specs.declared.Begun.TheVariants.{Opens};
 ghost use Rattle.lumps.specs.declared.LumpReader.{LumpReader};
 ghost use Rattle.lumps.specs.declared.Phase.TheVariants.{Heading, Keeping};
 
-use buffer_state::{Answer, Count, Refusal};
+use buffer_state::Refusal;
 use segments::SegmentTrack;
 
 // The type of a movie fragment box, `moof` in four letters.
@@ -61,85 +59,70 @@ pub enum Begun {
     Opens(u32, u64),
 }
 
-// How far a lump is gone through: the reader there, where the bytes begin that the lump adds to those that are kept, and the next place.
+// How far a lump is gone through from a reader: the reader there, where the bytes begin that the lump adds to those that are kept, and the
+// next place.
 #[derive(Clone, Copy)]
-pub struct Scan {
-    pub reader: LumpReader,
-    pub from: usize,
-    pub next: usize,
-}
-
-// Whether a lump is taken, and if so where it leads to.
-#[derive(Clone, Copy)]
-pub struct Tried {
-    pub answer: Answer,
-    pub scan: Scan,
-}
-
-// What a call answers, with the reader that it hands back.
-#[derive(Clone, Copy)]
-pub struct Lumped {
-    pub answer: Count,
-    pub reader: LumpReader,
+struct Scan<'a> {
+    start: LumpReader,
+    lump: &'a [u8],
+    reader: LumpReader,
+    from: usize,
+    next: usize,
+    ghost stands: { Standing start lump.now reader from next } by { Standing-prop start lump.now reader from next },
 }
 
 // ---- the condition on a reader
 
-fn zeros_from(l: &[u8], at: usize) -> bool
-    ensures { result ≡ all_of (λ b. eqb b 0) (drop at l.now) }
+fn zeros(l: &[u8]) -> bool
+    ensures { result ≡ list_all (λ b. eqb b 0) l.now }
 {
-    let mut i = at;
-    while i < l.len() {
-        if l[i] != 0 {
-            return false;
-        }
-        i += 1;
+    l.iter().all(|b| *b == 0)
+}
+
+fn zeros_from(l: &[u8], at: usize) -> bool
+    ensures { result ≡ list_all (λ b. eqb b 0) (drop at l.now) }
+{
+    match l.get(at..) {
+        Some(rest) => zeros(rest),
+        None => true,
     }
-    true
 }
 
 // What is asked in every phase.
 fn good_counts(r: LumpReader) -> bool
     ensures { result ≡ good_counts r }
 {
-    let head = r.head;
-    let zeros = zeros_from(&head, r.seen);
-    let some = (0 < r.fragments) | (r.kept == 0);
-    zeros & ((r.fragments <= 2) & ((r.kept <= MOST_KEPT) & some))
+    zeros_from(&r.head, r.seen)
+        && r.fragments <= 2
+        && r.kept <= MOST_KEPT
+        && (0 < r.fragments || r.kept == 0)
 }
 
 fn good_heading(r: LumpReader) -> bool
     ensures { result ≡ good_in Heading r }
 {
-    let head = r.head;
-    let size = boxes::read4(&head, 0);
-    (r.seen < 16) & ((r.left == 0) & ((r.seen < 8) | (size == 1)))
+    r.seen < 16 && r.left == 0 && (r.seen < 8 || boxes::read4(&r.head, 0) == 1)
 }
 
 fn good_phase(r: LumpReader) -> bool
     requires { r.kept ≤ most_kept }
     ensures { result ≡ good_in r.phase r }
 {
-    let none = r.seen == 0;
-    let some = 0 < r.left;
-    let phase = r.phase;
-    match phase {
+    let body = r.seen == 0 && 0 < r.left;
+    match r.phase {
         Phase::Heading => good_heading(r),
-        Phase::Passing => none & (some & (r.left <= MOST_LEFT)),
-        Phase::Keeping => none
-            & (some & ((r.left <= (MOST_KEPT - r.kept) as u64) & (r.fragments == 1))),
-        Phase::Stuck => none & (r.left == 0),
+        Phase::Passing => body && r.left <= MOST_LEFT,
+        Phase::Keeping => body && r.left <= (MOST_KEPT - r.kept) as u64 && r.fragments == 1,
+        Phase::Stuck => r.seen == 0 && r.left == 0,
         Phase::Large => false,
     }
 }
 
+#[tactic(auto, unfolding(crate::specs::Readers::good_reader))]
 fn good_reader(r: LumpReader) -> bool
     ensures { result ≡ good_reader r }
 {
-    if !good_counts(r) {
-        return false;
-    }
-    good_phase(r)
+    good_counts(r) && good_phase(r)
 }
 
 // ---- a header
@@ -154,11 +137,8 @@ fn opens(l: &[u8], header: u64, size: u64) -> Begun
         return Begun::Stuck;
     }
     let kind = boxes::read4(l, 4);
-    if kind == MOOF {
-        if (MOST as u64) < size {
-            return Begun::Large;
-        }
-        return Begun::Opens(kind, size - header);
+    if kind == MOOF && (MOST as u64) < size {
+        return Begun::Large;
     }
     Begun::Opens(kind, size - header)
 }
@@ -168,18 +148,14 @@ fn begun_by(l: &[u8]) -> Begun
     ensures is { result ≡ begun_of l.now }
     ensures bounded { IsBounded result }
 {
-    if l.len() == 8 {
-        let size = boxes::read4(l, 0);
-        if size == 1 {
-            return Begun::More;
-        }
-        return opens(l, 8, size as u64);
+    match l.len() {
+        8 => match boxes::read4(l, 0) {
+            1 => Begun::More,
+            size => opens(l, 8, u64::from(size)),
+        },
+        16 => opens(l, 16, boxes::read8(l, 8)),
+        _ => Begun::More,
     }
-    if l.len() == 16 {
-        let size = boxes::read8(l, 8);
-        return opens(l, 16, size);
-    }
-    Begun::More
 }
 
 // ---- a reader
@@ -226,13 +202,13 @@ fn box_opened(kind: u32, left: u64, fragments: u32, kept: usize) -> LumpReader
     ensures shows { Shows result kept (begins (Opens kind left) [] fragments) }
     ensures keeps { result.phase ≡ Keeping → kept ≡ 0 }
 {
-    if kind == MOOF {
-        if fragments == 0 {
-            return in_body(true, left, 1, 0);
-        }
-        return in_body(false, left, 2, kept);
+    if kind != MOOF {
+        return in_body(false, left, fragments, kept);
     }
-    in_body(false, left, fragments, kept)
+    if fragments == 0 {
+        return in_body(true, left, 1, 0);
+    }
+    in_body(false, left, 2, kept)
 }
 
 // One more byte of a header.
@@ -241,26 +217,20 @@ fn in_header(r: LumpReader, b: u8) -> LumpReader
     ensures shows { Shows result r.kept (λ k. stepping (heading (take r.seen r.head)) r.fragments k b) }
     ensures keeps { result.phase ≡ Keeping → r.kept ≡ 0 }
 {
-    let mut h = r.head;
-    let at = r.seen;
-    let kept = r.kept;
-    let fragments = r.fragments;
-    h[at] = b;
-    let n = at + 1;
-    let l = &h[..n];
-    let g = begun_by(l);
-    match g {
+    let mut head = r.head;
+    head[r.seen] = b;
+    let seen = r.seen + 1;
+    match begun_by(&head[..seen]) {
         Begun::More => LumpReader {
             phase: Phase::Heading,
-            head: h,
-            seen: n,
+            head,
+            seen,
             left: 0,
-            fragments,
-            kept,
+            ..r
         },
-        Begun::Stuck => bare(Phase::Stuck, 0, fragments, kept),
-        Begun::Large => bare(Phase::Large, 0, fragments, kept),
-        Begun::Opens(kind, left) => box_opened(kind, left, fragments, kept),
+        Begun::Stuck => bare(Phase::Stuck, 0, r.fragments, r.kept),
+        Begun::Large => bare(Phase::Large, 0, r.fragments, r.kept),
+        Begun::Opens(kind, left) => box_opened(kind, left, r.fragments, r.kept),
     }
 }
 
@@ -270,76 +240,105 @@ fn in_header(r: LumpReader, b: u8) -> LumpReader
 fn stretch(left: u64, room: usize) -> usize
     ensures { result ≡ cond (leb left room) left room }
 {
-    if left <= room as u64 {
-        return left as usize;
-    }
-    room
+    left.min(room as u64) as usize
 }
 
-// A byte of a header, a stretch of a body, or all where nothing counts any more.
-fn advance(s: Scan, lump: &[u8]) -> Scan
-    requires { Fits s.reader × (s.next < length lump.now) }
-    ensures stands { (r : LumpReader) → Standing r lump.now s → Standing r lump.now result }
-    ensures further { (s.next < result.next) × (result.next ≤ length lump.now) }
-{
-    let q = s.reader;
-    let from = s.from;
-    let i = s.next;
-    let phase = q.phase;
-    match phase {
-        Phase::Heading => {
-            let reader = in_header(q, lump[i]);
-            Scan {
-                reader,
-                from,
-                next: i + 1,
+impl<'a> Scan<'a> {
+    // A byte of a header, a stretch of a body, or all where nothing counts any more.
+    fn advance(&mut self)
+        requires { self.old.next < length self.old.lump.now }
+        ensures same { (self.new.start ≡ self.old.start) × (self.new.lump ≡ self.old.lump) }
+        ensures further { self.old.next < self.new.next }
+    {
+        let q = self.reader;
+        let i = self.next;
+        match q.phase {
+            Phase::Heading => {
+                self.reader = in_header(q, self.lump[i]);
+                self.next = i + 1;
             }
-        }
-        Phase::Passing => {
-            let n = stretch(q.left, lump.len() - i);
-            let reader = in_body(false, q.left - n as u64, q.fragments, q.kept);
-            Scan {
-                reader,
-                from,
-                next: i + n,
+            Phase::Passing => {
+                let n = stretch(q.left, self.lump.len() - i);
+                self.reader = in_body(false, q.left - n as u64, q.fragments, q.kept);
+                self.next = i + n;
             }
-        }
-        Phase::Keeping => {
-            let n = stretch(q.left, lump.len() - i);
-            let reader = in_body(true, q.left - n as u64, q.fragments, q.kept + n);
-            Scan {
-                reader,
-                from: i,
-                next: i + n,
+            Phase::Keeping => {
+                let n = stretch(q.left, self.lump.len() - i);
+                self.reader = in_body(true, q.left - n as u64, q.fragments, q.kept + n);
+                self.from = i;
+                self.next = i + n;
             }
+            Phase::Stuck | Phase::Large => self.next = self.lump.len(),
         }
-        Phase::Stuck => Scan {
-            reader: q,
-            from,
-            next: lump.len(),
-        },
-        Phase::Large => Scan {
-            reader: q,
-            from,
-            next: lump.len(),
-        },
+    }
+
+    // The bytes that the lump adds to those that are kept.
+    fn added(&self) -> &'a [u8]
+        ensures is { result.now ≡ part_of self.now.lump.now self.now.from (self.now.reader.kept - self.now.start.kept) }
+        ensures long { length result.now ≡ self.now.reader.kept - self.now.start.kept }
+    {
+        &self.lump[self.from..self.from + (self.reader.kept - self.start.kept)]
+    }
+
+    // They stand after those.
+    fn keep(&self, buffer: &mut [u8])
+        requires { most_kept ≤ length buffer.old }
+        ensures { buffer.new ≡ kept_by self.now.start self.now.reader self.now.from buffer.old self.now.lump.now ++ drop self.now.reader.kept buffer.old }
+    {
+        buffer[self.start.kept..self.reader.kept].copy_from_slice(self.added());
+    }
+
+    // The frames of the movie fragment: its body stands in the buffer, or in the lump, or begins in the one and ends in the other.
+    fn list_kept(
+        &self,
+        of: SegmentTrack,
+        buffer: &[u8],
+        list: &mut [[i64; 6]],
+    ) -> Result<usize, Refusal>
+        requires { most_kept ≤ length buffer.now }
+        ensures value { result ≡ row_count (list_movie of (length list.old) (kept_by self.now.start self.now.reader self.now.from buffer.now self.now.lump.now)) }
+        ensures list_after { list.new ≡ rows_after (list_movie of (length list.old) (kept_by self.now.start self.now.reader self.now.from buffer.now self.now.lump.now)) list.old }
+    {
+        let first = &buffer[..self.start.kept];
+        let rest = self.added();
+        if rest.is_empty() {
+            return segments::list_movie(of, first, list);
+        }
+        if first.is_empty() {
+            return segments::list_movie(of, rest, list);
+        }
+        list_parts(of, first, rest, list)
+    }
+
+    // The end is told.
+    fn end(&self, of: SegmentTrack, buffer: &[u8], list: &mut [[i64; 6]]) -> Result<usize, Refusal>
+        requires { Through buffer.now self.now.lump.now self.now.reader self.now.next }
+        ensures value { result ≡ taken_count (ends of (length list.old) (run (reading_of self.now.start buffer.now) self.now.lump.now)) }
+        ensures list_after { list.new ≡ frames_after (ends of (length list.old) (run (reading_of self.now.start buffer.now) self.now.lump.now)) list.old }
+    {
+        if !is_whole(self.reader) {
+            return Err(Refusal::Malformed);
+        }
+        self.list_kept(of, buffer, list)
     }
 }
 
 // Where a lump leads to from a reader.
-fn scanned(r: LumpReader, lump: &[u8]) -> Scan
-    requires { Fits r }
-    ensures { Standing r lump.now result × (result.next ≡ length lump.now) }
+fn scanned(start: LumpReader, lump: &[u8]) -> Scan<'_>
+    requires { Fits start }
+    ensures { (result.start ≡ start) × (result.lump.now ≡ lump.now) × (result.next ≡ length lump.now) }
 {
-    let mut s = Scan {
-        reader: r,
+    let mut scan = Scan {
+        start,
+        lump,
+        reader: start,
         from: 0,
         next: 0,
     };
-    while s.next < lump.len() {
-        s = advance(s, lump);
+    while scan.next < lump.len() {
+        scan.advance();
     }
-    s
+    scan
 }
 
 // ---- the end of a segment
@@ -348,28 +347,14 @@ fn scanned(r: LumpReader, lump: &[u8]) -> Scan
 fn is_large(r: LumpReader) -> bool
     ensures { result ≡ is_large (doing_of r.phase r) }
 {
-    let phase = r.phase;
-    match phase {
-        Phase::Heading => false,
-        Phase::Passing => false,
-        Phase::Keeping => false,
-        Phase::Stuck => false,
-        Phase::Large => true,
-    }
+    matches!(r.phase, Phase::Large)
 }
 
 // Whether what came is made of boxes, one movie fragment among them.
 fn is_whole(r: LumpReader) -> bool
     ensures { result ≡ whole_in r.phase r }
 {
-    let phase = r.phase;
-    match phase {
-        Phase::Heading => (r.seen == 0) & (r.fragments == 1),
-        Phase::Passing => false,
-        Phase::Keeping => false,
-        Phase::Stuck => false,
-        Phase::Large => false,
-    }
+    matches!(r.phase, Phase::Heading) && r.seen == 0 && r.fragments == 1
 }
 
 // The frames of a movie fragment whose body is in two parts, put together in lent room.
@@ -379,7 +364,7 @@ fn list_joined(
     rest: &[u8],
     room: &mut [u8],
     list: &mut [[i64; 6]],
-) -> Count
+) -> Result<usize, Refusal>
     requires { (length first.now + length rest.now ≤ most_kept) × (most_kept ≤ length room.old) }
     ensures value { result ≡ row_count (list_movie of (length list.old) (first.now ++ rest.now)) }
     ensures list_after { list.new ≡ rows_after (list_movie of (length list.old) (first.now ++ rest.now)) list.old }
@@ -391,8 +376,14 @@ fn list_joined(
     segments::list_movie(of, &room[..end], list)
 }
 
-// The same in room of the call's own.
-fn list_parts(of: SegmentTrack, first: &[u8], rest: &[u8], list: &mut [[i64; 6]]) -> Count
+// The same in room of the call's own, which no other call lays out on the stack. Apart, as the proof of the two parts doesn't close over the
+// list of its zeros.
+fn list_parts(
+    of: SegmentTrack,
+    first: &[u8],
+    rest: &[u8],
+    list: &mut [[i64; 6]],
+) -> Result<usize, Refusal>
     requires { length first.now + length rest.now ≤ most_kept }
     ensures value { result ≡ row_count (list_movie of (length list.old) (first.now ++ rest.now)) }
     ensures list_after { list.new ≡ rows_after (list_movie of (length list.old) (first.now ++ rest.now)) list.old }
@@ -401,185 +392,72 @@ fn list_parts(of: SegmentTrack, first: &[u8], rest: &[u8], list: &mut [[i64; 6]]
     list_joined(of, first, rest, &mut room, list)
 }
 
-// The frames of the movie fragment: its body stands in the buffer, or in the lump, or begins in the one and ends in the other.
-fn list_kept(
-    of: SegmentTrack,
-    r: LumpReader,
-    s: Scan,
-    buffer: &[u8],
-    lump: &[u8],
-    list: &mut [[i64; 6]],
-) -> Count
-    requires { Standing r lump.now s × (most_kept ≤ length buffer.now) }
-    ensures value { result ≡ row_count (list_movie of (length list.old) (kept_by r s buffer.now lump.now)) }
-    ensures list_after { list.new ≡ rows_after (list_movie of (length list.old) (kept_by r s buffer.now lump.now)) list.old }
-{
-    let at = r.kept;
-    let from = s.from;
-    let q = s.reader;
-    let end = from + (q.kept - at);
-    if q.kept == at {
-        return segments::list_movie(of, &buffer[..at], list);
-    }
-    if at == 0 {
-        return segments::list_movie(of, &lump[from..end], list);
-    }
-    list_parts(of, &buffer[..at], &lump[from..end], list)
-}
-
 // ---- the call
 
-fn refused(r: LumpReader, why: Refusal) -> Lumped
-    ensures { result ≡ refused_by r why }
-{
-    Lumped {
-        answer: Count::Refused(why),
-        reader: r,
-    }
-}
-
-fn not_taken(scan: Scan, why: Refusal) -> Tried
-    ensures { result ≡ record { answer = answer.Refused why; scan = scan } }
-{
-    Tried {
-        answer: Answer::Refused(why),
-        scan,
-    }
-}
-
-// A lump that was taken moves the reader.
-fn went_on(s: Scan) -> Lumped
-    ensures { result ≡ record { answer = Done 0; reader = s.reader } }
-{
-    let after = s.reader;
-    Lumped {
-        answer: Count::Done(0),
-        reader: after,
-    }
-}
-
-// Listing leaves the reader fresh.
-fn listed(r: LumpReader, n: Count) -> Lumped
-    ensures { result ≡ listed_by r n }
-{
-    match n {
-        Count::Done(_) => Lumped {
-            answer: n,
-            reader: fresh_reader(),
-        },
-        Count::Refused(why) => refused(r, why),
-    }
-}
-
-// The end is told.
-fn ended(
-    of: SegmentTrack,
-    r: LumpReader,
-    s: Scan,
-    buffer: &[u8],
-    lump: &[u8],
-    list: &mut [[i64; 6]],
-) -> Lumped
-    requires { Through r buffer.now lump.now s }
-    ensures value { result ≡ lumped_of r (ends of (length list.old) (run (reading_of r buffer.now) lump.now)) }
-    ensures list_after { list.new ≡ frames_after (ends of (length list.old) (run (reading_of r buffer.now) lump.now)) list.old }
-{
-    if !is_whole(s.reader) {
-        return refused(r, Refusal::Malformed);
-    }
-    let n = list_kept(of, r, s, buffer, lump, list);
-    listed(r, n)
-}
-
-// The bytes that the lump adds stand after those that are kept.
-fn keep(r: LumpReader, s: Scan, buffer: &mut [u8], lump: &[u8])
-    requires { Standing r lump.now s × (most_kept ≤ length buffer.old) }
-    ensures { buffer.new ≡ kept_by r s buffer.old lump.now ++ drop s.reader.kept buffer.old }
-{
-    let at = r.kept;
-    let from = s.from;
-    let q = s.reader;
-    let end = from + (q.kept - at);
-    buffer[at..q.kept].copy_from_slice(&lump[from..end]);
-}
-
 // Where a lump leads to, or why it is not taken.
-fn try_lump(r: LumpReader, room: usize, lump: &[u8]) -> Tried
-    ensures { Tries r room lump.now result }
+fn try_lump(r: LumpReader, room: usize, lump: &[u8]) -> Result<Scan<'_>, Refusal>
+    ensures leads { IfOk result (λ s. (s.start ≡ r) × (s.lump.now ≡ lump.now) × Leads r room lump.now s.reader s.next) }
+    ensures refuses { IfErr result (Refuses r room lump.now) }
 {
-    let start = Scan {
-        reader: r,
-        from: 0,
-        next: 0,
-    };
     if !good_reader(r) {
-        return not_taken(start, Refusal::IllFormed);
+        return Err(Refusal::IllFormed);
     }
     if room < MOST {
-        return not_taken(start, Refusal::LentSize);
+        return Err(Refusal::LentSize);
     }
     if MOST < lump.len() {
-        return not_taken(start, Refusal::LentSize);
+        return Err(Refusal::LentSize);
     }
     let scan = scanned(r, lump);
     if is_large(scan.reader) {
-        return not_taken(start, Refusal::LargeFragment);
+        return Err(Refusal::LargeFragment);
     }
-    Tried {
-        answer: Answer::Done,
-        scan,
-    }
+    Ok(scan)
 }
 
 // A lump of a segment after which more comes. Nothing is listed.
-pub fn take_more(r: LumpReader, buffer: &mut [u8], lump: &[u8]) -> Lumped
-    ensures answer { result ≡ lumped_of r (more_result r buffer.old lump.now) }
-    ensures buffer { buffer.new ≡ buffer_after (more_result r buffer.old lump.now) buffer.old }
+pub fn take_more(r: &mut LumpReader, buffer: &mut [u8], lump: &[u8]) -> Result<usize, Refusal>
+    ensures answer { result ≡ taken_count (more_result r.old buffer.old lump.now) }
+    ensures reader { r.new ≡ reader_after (more_result r.old buffer.old lump.now) r.old }
+    ensures buffer { buffer.new ≡ buffer_after (more_result r.old buffer.old lump.now) buffer.old }
 {
-    let t = try_lump(r, buffer.len(), lump);
-    let s = t.scan;
-    let answer = t.answer;
-    match answer {
-        Answer::Refused(why) => refused(r, why),
-        Answer::Done => {
-            keep(r, s, buffer, lump);
-            went_on(s)
-        }
-    }
+    let scan = try_lump(*r, buffer.len(), lump)?;
+    scan.keep(buffer);
+    *r = scan.reader;
+    Ok(0)
 }
 
-// The last lump of a segment, which may have no bytes. The buffer is not written.
+// The last lump of a segment, which may have no bytes. The buffer is not written, and listing leaves the reader fresh.
 pub fn take_last(
     of: SegmentTrack,
-    r: LumpReader,
+    r: &mut LumpReader,
     buffer: &[u8],
     lump: &[u8],
     list: &mut [[i64; 6]],
-) -> Lumped
-    ensures answer { result ≡ lumped_of r (last_result of (length list.old) r buffer.now lump.now) }
-    ensures frames { list.new ≡ frames_after (last_result of (length list.old) r buffer.now lump.now) list.old }
+) -> Result<usize, Refusal>
+    ensures answer { result ≡ taken_count (last_result of (length list.old) r.old buffer.now lump.now) }
+    ensures reader { r.new ≡ reader_after (last_result of (length list.old) r.old buffer.now lump.now) r.old }
+    ensures frames { list.new ≡ frames_after (last_result of (length list.old) r.old buffer.now lump.now) list.old }
 {
-    let t = try_lump(r, buffer.len(), lump);
-    let s = t.scan;
-    let answer = t.answer;
-    match answer {
-        Answer::Refused(why) => refused(r, why),
-        Answer::Done => ended(of, r, s, buffer, lump, list),
-    }
+    let scan = try_lump(*r, buffer.len(), lump)?;
+    let count = scan.end(of, buffer, list)?;
+    *r = fresh_reader();
+    Ok(count)
 }
 
 // A lump of a segment, and whether it is the last.
 pub fn take_lump(
     of: SegmentTrack,
-    r: LumpReader,
+    r: &mut LumpReader,
     buffer: &mut [u8],
     lump: &[u8],
     last: bool,
     list: &mut [[i64; 6]],
-) -> Lumped
-    ensures answer { result ≡ lumped_of r (lump_result of (length list.old) last r buffer.old lump.now) }
-    ensures buffer { buffer.new ≡ buffer_after (lump_result of (length list.old) last r buffer.old lump.now) buffer.old }
-    ensures frames { list.new ≡ frames_after (lump_result of (length list.old) last r buffer.old lump.now) list.old }
+) -> Result<usize, Refusal>
+    ensures answer { result ≡ taken_count (lump_result of (length list.old) last r.old buffer.old lump.now) }
+    ensures reader { r.new ≡ reader_after (lump_result of (length list.old) last r.old buffer.old lump.now) r.old }
+    ensures buffer { buffer.new ≡ buffer_after (lump_result of (length list.old) last r.old buffer.old lump.now) buffer.old }
+    ensures frames { list.new ≡ frames_after (lump_result of (length list.old) last r.old buffer.old lump.now) list.old }
 {
     if last {
         return take_last(of, r, buffer, lump, list);

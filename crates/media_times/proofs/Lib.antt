@@ -3,3 +3,4 @@ pub mod EvenLaws
 pub mod Examples
 pub mod LimitLaws
 pub mod RoundLaws
+pub mod TestLaws

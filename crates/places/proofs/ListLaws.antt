@@ -1,11 +1,11 @@
 -- Arrays that a loop overwrites from the front, and arrays with zeros past the first n.
-use mathlib.Core.Path.{◌≡◌, refl, sym, ap, ◌∙◌}
-use mathlib.Core.List.{List, [], ◌∷◌, ◌++◌, append_assoc, append-nil}
+use mathlib.Core.Path.{◌≡◌, sym, ap, ◌∙◌}
+use mathlib.Core.List.{List, [], ◌∷◌, ◌++◌}
 use Prim.Native.Nat.{ℕ, zero, suc, ◌+◌, ◌-◌, ◌≤◌, ◌<◌}
 use native.Mathlib.Numerals.{add-one}
 use native.Mathlib.Omega.{arith}
-use lib.ListN.{length, take, drop, get_or, set, replicate, length-append, length-replicate, replicate-append-replicate, take-append-drop}
-use lib.Seq.{length-take-le, drop-cons, get_or-append-add, get_or-drop, set_at, append_snoc, drop-append-add}
+use lib.ListN.{length, take, drop, get_or, set, replicate}
+use lib.Seq.{drop-cons, get_or-append-add, get_or-drop, set_at, append_snoc, drop-append-add}
 use Rattle.laws.proofs.ListLaws.{first-length}
 use Rattle.buffer_state.specs.Layout.{padded_list}
 
@@ -45,18 +45,3 @@ module _ {A : Type 0} (z : A) (l : List A) (n places : ℕ) (k : n ≤ length l)
   -- what takes the first m places is padded to the end
   pub full-all : (m : ℕ) → n ≤ m → (p : List A) → length p ≡ m → p ++ drop m l ≡ padded_list places z p
   full-all m h p q = rw (zeros-from m h, q)
-
--- ---- places cleared from k up to i
-
-pub clear_none : {A : Type 0} (l : List A) (k : ℕ) (z : A) → l ≡ (take k l ++ replicate (k - k) z) ++ drop k l
-clear_none l k z = let s : k - k ≡ 0 = omega arith in sym (rw (s, append-nil (take k l)) (take-append-drop k l))
-
-pub clear-turn : {A : Type 0} (l t : List A) (k i : ℕ) (z : A) → k ≤ i → i < length l → t ≡ (take k l ++ replicate (i - k) z) ++ drop i l
-    → set t i z ≡ (take k l ++ replicate (i + 1 - k) z) ++ drop (i + 1) l
-clear-turn {A} l t k i z h g e =
-    let p : List A = take k l ++ replicate (i - k) z in
-    let len : i ≡ length p = omega (arith, length-append (take k l) (replicate (i - k) z), length-take-le k l (omega arith), length-replicate (i - k) z) in
-    let c : (i - k) + 1 ≡ i + 1 - k = omega arith in
-    rw e (front-more p l i len z g
-    ∙ ap (λ (x : List A). x ++ drop (i + 1) l) (append_assoc (take k l) (replicate (i - k) z) (z ∷ [])
-    ∙ ap (λ (x : List A). take k l ++ x) (replicate-append-replicate (i - k) 1 z ∙ ap (λ (m : ℕ). replicate m z) c)))

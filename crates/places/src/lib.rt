@@ -15,15 +15,6 @@ use buffer_state::Frame;
 
 // ---- a place
 
-fn flag_out(b: bool) -> u32
-    ensures { result ≡ flag_out b }
-{
-    if b {
-        return 1;
-    }
-    0
-}
-
 // The frame that two rows hold.
 pub fn frame_of(time: [i64; 2], tag: [u32; 5]) -> Frame
     ensures { result ≡ frame_of time tag }
@@ -56,7 +47,7 @@ pub fn put_at(times: &mut [[i64; 2]], tags: &mut [[u32; 5]], i: usize, f: Frame)
     ensures tags { tags.new ≡ set tags.old i (tag_of f) }
 {
     let time = [f.pts, f.dts];
-    let tag = [f.track, flag_out(f.flagged), f.duration, f.number, f.group];
+    let tag = [f.track, u32::from(f.flagged), f.duration, f.number, f.group];
     times[i] = time;
     tags[i] = tag;
 }
@@ -64,91 +55,26 @@ pub fn put_at(times: &mut [[i64; 2]], tags: &mut [[u32; 5]], i: usize, f: Frame)
 // ---- clearing
 
 // Zeros from place k up to n.
-pub fn clear_times(times: &mut [[i64; 2]], k: usize, n: usize)
-    requires { (k ≤ n) × (n ≤ length times.old) }
-    ensures { times.new ≡ cleared_places (time_of zero_frame) k n times.old }
+pub fn clear(times: &mut [[i64; 2]], tags: &mut [[u32; 5]], k: usize, n: usize)
+    requires { (k ≤ n) × (n ≤ length times.old) × (n ≤ length tags.old) }
+    ensures times { times.new ≡ cleared_places (time_of zero_frame) k n times.old }
+    ensures tags { tags.new ≡ cleared_places (tag_of zero_frame) k n tags.old }
 {
-    let z = [0i64; 2];
-    let mut i = k;
-    while i < n {
-        times[i] = z;
-        i += 1;
-    }
-}
-
-pub fn clear_tags(tags: &mut [[u32; 5]], k: usize, n: usize)
-    requires { (k ≤ n) × (n ≤ length tags.old) }
-    ensures { tags.new ≡ cleared_places (tag_of zero_frame) k n tags.old }
-{
-    let z = [0u32; 5];
-    let mut i = k;
-    while i < n {
-        tags[i] = z;
-        i += 1;
-    }
+    times[k..n].fill([0; 2]);
+    tags[k..n].fill([0; 5]);
 }
 
 // ---- store order
 
-fn earlier(a: Frame, b: Frame) -> bool
-    ensures { result ≡ lt_z a.dts b.dts }
-{
-    a.dts < b.dts
-}
-
 // Whether a comes before b in store order.
+#[tactic(auto, unfolding(buffer_state::specs::Store::is_before))]
 pub fn frame_before(a: Frame, b: Frame) -> bool
     ensures { result ≡ is_before a b }
 {
-    if a.track != b.track {
-        return a.track < b.track;
-    }
-    if earlier(a, b) {
-        return true;
-    }
-    if earlier(b, a) {
-        return false;
-    }
-    a.number < b.number
+    (a.track, a.dts, a.number) < (b.track, b.dts, b.number)
 }
 
 // ---- insertion
-
-// The rows from p on move one place further.
-fn open_times(times: &mut [[i64; 2]], p: usize, n: usize)
-    requires { (p ≤ n) × (n < length times.old) }
-    ensures { times.new ≡ opened p n times.old }
-{
-    let mut i = n;
-    while p < i {
-        let j = i - 1;
-        let t = times[j];
-        times[i] = t;
-        i = j;
-    }
-}
-
-// Two in a turn, which the compiler does for the times by itself.
-fn open_tags(tags: &mut [[u32; 5]], p: usize, n: usize)
-    requires { (p ≤ n) × (n < length tags.old) }
-    ensures { tags.new ≡ opened p n tags.old }
-{
-    let mut i = n;
-    while p + 1 < i {
-        let j = i - 1;
-        let t = tags[j];
-        tags[i] = t;
-        let k = j - 1;
-        let u = tags[k];
-        tags[j] = u;
-        i = k;
-    }
-    if p < i {
-        let j = i - 1;
-        let t = tags[j];
-        tags[i] = t;
-    }
-}
 
 // Where f goes: past the last frame that it does not come before. Often that is the last of all; else the place is found by halving.
 fn place_of(times: &[[i64; 2]], tags: &[[u32; 5]], n: usize, f: Frame) -> usize
@@ -181,8 +107,8 @@ pub fn insert(times: &mut [[i64; 2]], tags: &mut [[u32; 5]], n: usize, f: Frame)
     ensures tags { tags.new ≡ tags_of (padded_list places zero_frame (insert_sorted f (take n (frames_of times.old tags.old)))) }
 {
     let p = place_of(times, tags, n, f);
-    open_times(times, p, n);
-    open_tags(tags, p, n);
+    times.copy_within(p..n, p + 1);
+    tags.copy_within(p..n, p + 1);
     put_at(times, tags, p, f);
 }
 
@@ -193,10 +119,5 @@ pub fn copy_rows(from: &[[i64; 2]], n: usize, to: &mut [[i64; 2]])
     requires { (n ≤ length from.now) × (n ≤ length to.old) }
     ensures { to.new ≡ take n from.now ++ drop n to.old }
 {
-    let mut i: usize = 0;
-    while i < n {
-        let row = from[i];
-        to[i] = row;
-        i += 1;
-    }
+    to[..n].copy_from_slice(&from[..n]);
 }

@@ -12,7 +12,7 @@ use Rattle.buffer_state.specs.Answers.{laid_ranges}
 use Rattle.buffer_state.specs.Limits.{places}
 use Rattle.buffer_state.specs.Ranges.{Range}
 use Rattle.buffer_state.specs.WellFormed.{all_of}
-use Rattle.buffer_laws.proofs.TestLaws.{all_first, all_rest}
+use Rattle.buffer_laws.proofs.TestLaws.{all_first, all_rest, all_more, all_none}
 use Rattle.ranges.specs.Bars.{Shows}
 use Rattle.ranges.specs.Read.{ranges_in}
 
@@ -21,6 +21,11 @@ pub all-at : {A : Type 0} (p : A → Bool) (l : List A) (i : ℕ) (z : A) → i 
 all-at p [] i z h e = absurd (omega arith)
 all-at p (x ∷ l) zero z h e = all_first p x l e
 all-at p (x ∷ l) (suc i) z h e = all-at p l i z (omega arith) (all_rest p x l e)
+
+-- and what each passes, all do
+pub every : {A : Type 0} (p : A → Bool) (l : List A) (z : A) → ((i : ℕ) → i < length l → p (get_or l i z) ≡ true) → all_of p l ≡ true
+every p [] z each = all_none p
+every p (x ∷ l) z each = all_more p x l (each 0 (omega arith)) (every p l z (λ i h. each (suc i) (omega arith)))
 
 module _ {A : Type 0} (l : List A) where
   pub next : (i n : ℕ) (z : A) → i < n → n ≤ length l → slice i n l ≡ get_or l i z ∷ slice (i + 1) n l

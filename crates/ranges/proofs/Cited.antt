@@ -1,5 +1,6 @@
 -- What a reader can cite of a report that is not refused: an instant is reported as held exactly when it is covered, neighbouring
 -- ranges never touch, and an instant that is not covered parts the ranges around it. And of the count of frames that a report's walk takes.
+use Rattle.std.specs.Prelude.{Ok, Err}
 use mathlib.Core.Path.{◌≡◌, refl, sym, ap, ◌∙◌}
 use mathlib.Core.Bool.{Bool, true, false, not, ◌&&◌, ◌||◌}
 use mathlib.Core.List.{List, [], ◌∷◌, ◌++◌}
@@ -13,17 +14,16 @@ use lib.Signed.{lt_z, ◌<ℤ◌}
 use borrow.Author.Tests.{leb-true}
 use Rattle.laws.proofs.BoolLaws.{split, both_ways, and_left, and_right, or-none-left, or-none-right}
 use Rattle.laws.proofs.IntLaws.{weaken, le-lt, lt-lt}
-use Rattle.buffer_state.specs.declared.Count.{Count}
 use Rattle.buffer_state.specs.declared.Frame.{Frame}
 use Rattle.buffer_state.specs.declared.Head.{Head}
 use Rattle.buffer_state.specs.declared.Refusal.{Refusal}
 use Rattle.buffer_state.specs.declared.Refusal.TheVariants.{NoTrack, ShortList}
-use Rattle.buffer_state.specs.Answers.{range_count, ranges_after, laid_ranges, track_ranges_result, common_ranges_result, taken_count, walked_result}
+use Rattle.buffer_state.specs.Answers.{range_count, ranges_after, laid_ranges, track_ranges_result, common_ranges_result, walked_result}
 use Rattle.buffer_state.specs.Buffer.{Buffer, has_track}
 use Rattle.buffer_state.specs.Layout.{buffer_of}
 use Rattle.buffer_state.specs.Lent.{state_at, well_formed_at}
 use Rattle.buffer_state.specs.Ranges.{Range, lies_in, in_ranges, is_rising, covered_on, covered_on_all, ranges_of, common_ranges_of, track_ranges, common_ranges}
-use Rattle.buffer_state.specs.Refusals.{CallResult, done, refuse_if}
+use Rattle.buffer_state.specs.Refusals.{CallResult, refuse_if}
 use Rattle.buffer_state.specs.Run.{count}
 use Rattle.buffer_state.specs.Walked.{walked}
 use Rattle.buffer_state.specs.WellFormed.{all_of, good_count, good_tracks, good_buffer}
@@ -54,13 +54,13 @@ some-track b h = leb-true 1 (length b.tracks) (and_left (leb 1 (length b.tracks)
 
 -- ---- a report that is not refused, read back
 
-refusal-no-count : {why : Refusal} {n : ℕ} → Count.Refused why ≡ Count.Done n → ⊥
+refusal-no-count : {why : Refusal} {n : ℕ} → ◌≡◌ {A = CallResult ℕ} (Err why) (Ok n) → ⊥
 refusal-no-count e = let z : ◌≡◌ {A = ℕ} 0 1 = cc in omega arith
 
-read_back : (result : CallResult (List Range)) (rs : List Range) (r : Count) (n : ℕ) (after before : List (List ℤ)) → Reported r after result before → r ≡ Count.Done n
-    → result ≡ done rs → ranges_in (take n after) ≡ rs
+read_back : (result : CallResult (List Range)) (rs : List Range) (r : CallResult ℕ) (n : ℕ) (after before : List (List ℤ)) → Reported r after result before → r ≡ Ok n
+    → result ≡ Ok rs → ranges_in (take n after) ≡ rs
 read_back result rs r n after before told counted e =
-    let same : Count.Done n ≡ Count.Done (length rs) = sym counted ∙ told.answer ∙ ap range_count e in
+    let same : ◌≡◌ {A = CallResult ℕ} (Ok n) (Ok (length rs)) = sym counted ∙ told.answer ∙ ap range_count e in
     let size : n ≡ length rs = cc in
     let list : after ≡ laid_ranges rs ++ drop (length rs) before = told.list ∙ ap (λ (x : CallResult (List Range)). ranges_after x before) e in
     let front : take n after ≡ laid_ranges rs = rw (list, size) (take_at (laid_ranges rs) (drop (length rs) before) (length rs) (length-map rs _)) in
@@ -71,15 +71,15 @@ module _ (h : Head) (ts : List (List ℤ)) (gs : List (List ℕ)) where
   abbrev buffer : Buffer
   buffer = buffer_of (state_at h ts gs)
 
-  module _ (lent track : ℕ) (r : Count) (n : ℕ) (after before : List (List ℤ))
-      (told : Reported r after (track_ranges_result lent track h ts gs) before) (counted : r ≡ Count.Done n) where
-    done-track : (a b : Bool) (rs : List Range) → range_count (refuse_if (not a) NoTrack (refuse_if b ShortList (done rs))) ≡ Count.Done n
-        → refuse_if (not a) NoTrack (refuse_if b ShortList (done rs)) ≡ done rs
+  module _ (lent track : ℕ) (r : CallResult ℕ) (n : ℕ) (after before : List (List ℤ))
+      (told : Reported r after (track_ranges_result lent track h ts gs) before) (counted : r ≡ Ok n) where
+    done-track : (a b : Bool) (rs : List Range) → range_count (refuse_if (not a) NoTrack (refuse_if b ShortList (Ok rs))) ≡ Ok n
+        → refuse_if (not a) NoTrack (refuse_if b ShortList (Ok rs)) ≡ Ok rs
     done-track false b rs e = absurd (refusal-no-count e)
     done-track true true rs e = absurd (refusal-no-count e)
     done-track true false rs e = refl
 
-    answered : range_count (track_ranges_result lent track h ts gs) ≡ Count.Done n
+    answered : range_count (track_ranges_result lent track h ts gs) ≡ Ok n
     answered = sym told.answer ∙ counted
 
     well : well_formed_at h ts gs ≡ true
@@ -87,7 +87,7 @@ module _ (h : Head) (ts : List (List ℤ)) (gs : List (List ℕ)) where
         split (well_formed_at h ts gs) (λ e. e)
         (λ e. absurd (refusal-no-count (sym (ap range_count (track-ill-formed lent track h ts gs e)) ∙ answered)))
 
-    track-done : track_ranges_result lent track h ts gs ≡ done (ranges_of track buffer.frames)
+    track-done : track_ranges_result lent track h ts gs ≡ Ok (ranges_of track buffer.frames)
     unfolding track_ranges_result track_ranges
     track-done =
         let same = on-well_formed (track_ranges lent track) h ts gs well in
@@ -120,13 +120,13 @@ module _ (h : Head) (ts : List (List ℤ)) (gs : List (List ℕ)) where
         go (q ∷ qs) e = all_more _ q qs (apart q (or-none-left (lies_in t q) (in_ranges t qs) (first t q qs e))) (go qs (or-none-right (lies_in t q) (in_ranges t qs) (first t q qs e)))
 
   -- The common report: an instant is reported exactly when every track covers it, and neighbouring ranges never touch.
-  module _ (lent : ℕ) (r : Count) (n : ℕ) (after before : List (List ℤ))
-      (told : Reported r after (common_ranges_result lent h ts gs) before) (counted : r ≡ Count.Done n) where
-    done-common : (b : Bool) (rs : List Range) → range_count (refuse_if b ShortList (done rs)) ≡ Count.Done n → refuse_if b ShortList (done rs) ≡ done rs
+  module _ (lent : ℕ) (r : CallResult ℕ) (n : ℕ) (after before : List (List ℤ))
+      (told : Reported r after (common_ranges_result lent h ts gs) before) (counted : r ≡ Ok n) where
+    done-common : (b : Bool) (rs : List Range) → range_count (refuse_if b ShortList (Ok rs)) ≡ Ok n → refuse_if b ShortList (Ok rs) ≡ Ok rs
     done-common true rs e = absurd (refusal-no-count e)
     done-common false rs e = refl
 
-    common-answered : range_count (common_ranges_result lent h ts gs) ≡ Count.Done n
+    common-answered : range_count (common_ranges_result lent h ts gs) ≡ Ok n
     common-answered = sym told.answer ∙ counted
 
     common-well : well_formed_at h ts gs ≡ true
@@ -134,7 +134,7 @@ module _ (h : Head) (ts : List (List ℤ)) (gs : List (List ℕ)) where
         split (well_formed_at h ts gs) (λ e. e)
         (λ e. absurd (refusal-no-count (sym (ap range_count (common-ill-formed lent h ts gs e)) ∙ common-answered)))
 
-    common-done : common_ranges_result lent h ts gs ≡ done (common_ranges_of (length buffer.tracks) buffer.frames)
+    common-done : common_ranges_result lent h ts gs ≡ Ok (common_ranges_of (length buffer.tracks) buffer.frames)
     unfolding common_ranges_result common_ranges
     common-done =
         let same = on-well_formed (common_ranges lent) h ts gs common-well in
@@ -157,26 +157,26 @@ module _ (h : Head) (ts : List (List ℤ)) (gs : List (List ℕ)) where
     common-never-touch = ap is_rising common-read ∙ common-report-rises buffer (good-facts buffer (lent-good h ts gs common-well)) _
 
   -- How many frames the walk of a report takes, where that is not refused; it is there also where the report is refused 10.
-  module _ (lent track : ℕ) (r : Count) (n : ℕ) (told : r ≡ taken_count (walked_result lent track h ts gs)) (counted : r ≡ Count.Done n) where
-    walk-answered : taken_count (walked_result lent track h ts gs) ≡ Count.Done n
+  module _ (lent track : ℕ) (r : CallResult ℕ) (n : ℕ) (told : r ≡ walked_result lent track h ts gs) (counted : r ≡ Ok n) where
+    walk-answered : walked_result lent track h ts gs ≡ Ok n
     walk-answered = sym told ∙ counted
 
     walk-well : well_formed_at h ts gs ≡ true
     walk-well =
         split (well_formed_at h ts gs) (λ e. e)
-        (λ e. absurd (refusal-no-count (sym (ap taken_count (walked-ill-formed lent track h ts gs e)) ∙ walk-answered)))
+        (λ e. absurd (refusal-no-count (sym (walked-ill-formed lent track h ts gs e) ∙ walk-answered)))
 
     walk-sound : all_of is_sound buffer.frames ≡ true
     walk-sound = (well_formed-stores h ts gs walk-well).each
 
-    done-walk : (a : Bool) (m : ℕ) → taken_count (refuse_if (not a) NoTrack (done m)) ≡ Count.Done n → n ≡ m
+    done-walk : (a : Bool) (m : ℕ) → refuse_if (not a) NoTrack (Ok m) ≡ Ok n → n ≡ m
     done-walk false m e = absurd (refusal-no-count e)
     done-walk true m e = cc
 
     walk-taken : n ≡ taken_by (drop lent (ranges_of track buffer.frames)) (own_stretches track buffer.frames)
     unfolding walked_result walked
     walk-taken =
-        done-walk (has_track buffer track) _ (sym (ap taken_count (on-well_formed (walked lent track) h ts gs walk-well)) ∙ walk-answered)
+        done-walk (has_track buffer track) _ (sym (on-well_formed (walked lent track) h ts gs walk-well) ∙ walk-answered)
         ∙ presented-taken track buffer.frames walk-sound lent
 
     -- All the track's, where there is a place for each range.

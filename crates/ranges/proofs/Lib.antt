@@ -1,10 +1,10 @@
 pub mod BarLaws
 pub mod TimeLaws
-pub mod StoredLaws
 pub mod SweepLaws
 pub mod TakenLaws
 pub mod WalkLaws
 pub mod OwnLaws
+pub mod StoredLaws
 pub mod KeyLaws
 pub mod OrderLaws
 pub mod TrackLaws

@@ -3,13 +3,15 @@
 use mathlib.Core.Path.{◌≡◌, refl, sym, ap, ap₂, ◌∙◌}
 use mathlib.Core.Bool.{Bool, true, false, cond}
 use mathlib.Core.List.{List, [], ◌∷◌, ◌++◌, append_assoc, append-nil}
-use Prim.Native.Nat.{ℕ, ◌+◌, ◌≤◌, ◌<◌}
+use Prim.Native.Nat.{ℕ, ◌+◌, ◌-◌, ◌≤◌, ◌<◌}
 use native.Mathlib.Numerals.{add-one}
 use native.Mathlib.Omega.{arith}
 use lib.IntN.{ℤ}
 use lib.ListN.{length, take, drop, get_or, set, length-set, drop_of_length-le}
-use lib.Seq.{slice, drop-cons, take-set-le, drop-set-lt}
+use lib.Seq.{slice, length-take-le, drop_at, drop-cons, take-set-le, drop-set-lt}
 use lib.Signed.{lt_z, ◌≤ℤ◌, ◌<ℤ◌}
+use mir.Val.{bool_byte}
+use Rattle.std.specs.List.{copy_within}
 use Rattle.laws.proofs.BoolLaws.{by-test}
 use Rattle.laws.proofs.IntLaws.{test-lt, test-ge, ge-test, lt-le, le-lt, le-le, weaken}
 use Rattle.buffer_state.specs.Answers.{laid_ranges}
@@ -68,6 +70,17 @@ unfolding common_of clipped_ranges
 common-none [] = refl
 common-none (r ∷ rs) = common-none rs
 
+-- ---- the spans at the end of their array
+
+-- the first m of n rows, copied to the end, are the last
+pub moved-end : {A : Type 0} (xs : List A) (m n : ℕ) → length xs ≡ n → m ≤ n → drop (n - m) (copy_within xs 0 m (n - m)) ≡ take m xs
+moved-end xs m n e h =
+    let front : length (take (n - m) xs) ≡ n - m = length-take-le (n - m) xs (omega (arith, e)) in
+    let all : m - 0 ≡ m = omega arith in
+    let past : n - m + m ≡ n = omega arith in
+    let none : drop n xs ≡ [] = drop_of_length-le xs {i = n} (omega (arith, e)) in
+    rw (all, past, none) (ap (drop (n - m)) (append-nil (take (n - m) xs ++ take m xs)) ∙ drop_at (take (n - m) xs) (take m xs) (n - m) front)
+
 -- ---- the loop
 
 -- the ranges from the one at j on, of the first n rows
@@ -93,6 +106,14 @@ kept_more spans k z others h true = more spans k (row_of z) (laid_ranges others)
 kept_more spans k z others h false =
     let e : k + 0 ≡ k = omega arith in
     rw (e, take-set-le k spans k (row_of z) (omega arith))
+
+-- the count of instants as the code has it
+pub some_count : (z : Range) {l : ℕ} {t : Bool} → l ≡ bool_byte t → t ≡ lt_z z.start z.end → l ≡ cond (lt_z z.start z.end) 1 0
+some_count z e t = e ∙ ap bool_byte t ∙ byte (lt_z z.start z.end)
+  where
+    byte : (b : Bool) → bool_byte b ≡ cond b 1 0
+    byte true = refl
+    byte false = refl
 
 pub one_at_most : (l : ℕ) (z : Range) → l ≡ cond (lt_z z.start z.end) 1 0 → l ≤ 1
 one_at_most l z e = rw e (by-test (λ n. n ≤ 1) (lt_z z.start z.end) {x = 1} {y = 0} (λ _. omega arith) (λ _. omega arith))

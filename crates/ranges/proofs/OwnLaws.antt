@@ -3,14 +3,12 @@ use mathlib.Core.Path.{◌≡◌, refl, sym, ap, ap₂, ◌∙◌}
 use mathlib.Core.Bool.{Bool, true, false, cond, ◌&&◌, ◌||◌}
 use mathlib.Core.List.{List, [], ◌∷◌, map}
 use Prim.Native.Nat.{ℕ, zero, suc, ◌+◌, ◌≤◌, ◌<◌}
-use native.Mathlib.Numerals.{add-one}
 use native.Mathlib.Omega.{arith}
 use lib.Dec.{eqb}
 use lib.IntN.{ℤ}
 use lib.ListN.{length, take, drop, get_or}
-use lib.Seq.{drop-cons}
 use lib.Signed.{lt_z, le_z, ◌≤ℤ◌}
-use borrow.Author.Tests.{eqb-true, eq-eqb, ne_eqb, leb-true, le-leb, ltb-true, lt-ltb}
+use borrow.Author.Tests.{eqb-true, eq-eqb, ne_eqb, leb-true, ltb-true}
 use Rattle.laws.proofs.BoolLaws.{split, by-test, and_left, and_right, and_both}
 use Rattle.laws.proofs.IntLaws.{test-lt, lt_test, le_test, test-ge, lt-add, weaken}
 use Rattle.buffer_state.specs.declared.Frame.{Frame}
@@ -56,38 +54,13 @@ tracks-rise f g =
     (λ t e. omega (arith, eqb-true f.track g.track t))
     (λ t e. omega (arith, ltb-true f.track g.track (rw t at e)))
 
-sorted-drop : (i : ℕ) (fs : List Frame) → is_sorted fs ≡ true → is_sorted (drop i fs) ≡ true
+pub sorted-tracks : (fs : List Frame) → is_sorted fs ≡ true → (i j : ℕ) → i ≤ j → j < length fs → (get_or fs i zero_frame).track ≤ (get_or fs j zero_frame).track
 unfolding is_sorted
-sorted-drop zero fs e = e
-sorted-drop (suc i) [] e = e
-sorted-drop (suc i) (f ∷ fs) e = sorted-drop i fs (pairs-rest is_before f fs e)
-
--- frames from one on are of its track or of one above, and frames up to one of its track or of one below
-module _ (track : ℕ) where
-  pub from_one : (fs : List Frame) → is_sorted fs ≡ true → (i : ℕ) → i < length fs → track ≤ (get_or fs i zero_frame).track → all_of (from_on track) (drop i fs) ≡ true
-  unfolding is_sorted
-  from_one fs order i h e =
-      let here : Frame = get_or fs i zero_frame in
-      let cut : drop i fs ≡ here ∷ drop (i + 1) fs = rw add-one (drop-cons fs i zero_frame h) in
-      let later : all_of (is_before here) (drop (i + 1) fs) ≡ true = pairs_first is_before here (drop (i + 1) fs) (sym (ap is_sorted cut) ∙ sorted-drop i fs order) in
-      ap (all_of (from_on track)) cut
-      ∙ all_more (from_on track) here (drop (i + 1) fs) (le-leb track here.track e)
-      (all_weaker (is_before here) (from_on track) (λ f b. le-leb track f.track (omega (arith, e, tracks-rise here f b))) (drop (i + 1) fs) later)
-
-  up_to-one : (fs : List Frame) → is_sorted fs ≡ true → (i : ℕ) → i < length fs → (get_or fs i zero_frame).track < track → all_of (is_under track) (take (suc i) fs) ≡ true
-  unfolding is_sorted
-  up_to-one [] order i h e = absurd (omega arith)
-  up_to-one (f ∷ fs) order zero h e = all_more (is_under track) f [] (lt-ltb f.track track e) (all_none (is_under track))
-  up_to-one (f ∷ fs) order (suc i) h e =
-      let next : is_before f (get_or fs i zero_frame) ≡ true = all-at (is_before f) fs i zero_frame (omega arith) (pairs_first is_before f fs order) in
-      all_more (is_under track) f (take (suc i) fs) (lt-ltb f.track track (omega (arith, tracks-rise f (get_or fs i zero_frame) next)))
-      (up_to-one fs (pairs-rest is_before f fs order) i (omega arith) e)
-
-  pub under_one : (fs : List Frame) → is_sorted fs ≡ true → (i : ℕ) → i < length fs → (get_or fs i zero_frame).track < track → all_of (is_under track) (take (i + 1) fs) ≡ true
-  under_one fs order i h e = rw add-one (up_to-one fs order i h e)
-
-  pub under_next : (l : List Frame) → all_of (is_under track) l ≡ true → all_of (is_under (track + 1)) l ≡ true
-  under_next = all_weaker (is_under track) (is_under (track + 1)) (λ f e. lt-ltb f.track (track + 1) (let h : f.track < track = ltb-true f.track track e in omega arith))
+sorted-tracks [] order i j h k = absurd (omega arith)
+sorted-tracks (f ∷ fs) order zero zero h k = omega arith
+sorted-tracks (f ∷ fs) order zero (suc j) h k = tracks-rise f (get_or fs j zero_frame) (all-at (is_before f) fs j zero_frame (omega arith) (pairs_first is_before f fs order))
+sorted-tracks (f ∷ fs) order (suc i) zero h k = absurd (omega arith)
+sorted-tracks (f ∷ fs) order (suc i) (suc j) h k = sorted-tracks fs (pairs-rest is_before f fs order) i j (omega arith) (omega arith)
 
 -- ---- those between two places
 

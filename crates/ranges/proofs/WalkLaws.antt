@@ -1,7 +1,7 @@
 -- The two loops of a walk: the rows written, with a walk over the stretches that are left, are the walk over all; what is left is in order
 -- exactly where all are; and the stretches taken, with those that a walk takes of what is left, are those that it takes of all.
 use mathlib.Core.Path.{◌≡◌, refl, sym, ap, ◌∙◌}
-use mathlib.Core.Bool.{true, false}
+use mathlib.Core.Bool.{Bool, true, false}
 use mathlib.Core.List.{List, [], ◌∷◌, ◌++◌, append-nil}
 use Prim.Native.Nat.{ℕ, suc, ◌+◌, ◌-◌, ◌≤◌, ◌<◌}
 use native.Mathlib.Omega.{arith}
@@ -9,10 +9,12 @@ use lib.IntN.{ℤ}
 use lib.ListN.{length, take, drop, set, length-set, length-map, length-append, drop_of_length-le}
 use lib.Seq.{length-take-le}
 use lib.Signed.{lt_z, ◌<ℤ◌, ◌≤ℤ◌}
-use Rattle.laws.proofs.BoolLaws.{clash, by-test}
+use mir.Syntax.{w64}
+use mir.ValLaws.{to_z-of_z}
+use mir.Val.{SFits, of_z, to_z}
+use Rattle.laws.proofs.WordLaws.{told₂}
+use Rattle.laws.proofs.BoolLaws.{by-test}
 use Rattle.laws.proofs.IntLaws.{test-lt, lt_test, le_test, test-ge, ge-test, gt-test, lt-le, le_refl, weaken}
-use Rattle.seconds.specs.Seconds.{same_int}
-use Rattle.seconds.proofs.SecondsLaws.{same_int_lem}
 use Rattle.buffer_state.specs.Answers.{laid_ranges}
 use Rattle.buffer_state.specs.Limits.{places}
 use Rattle.buffer_state.specs.Ranges.{Range, greater_of}
@@ -20,7 +22,7 @@ use Rattle.buffer_state.specs.Walked.{taken_from, taken_of}
 use Rattle.buffer_laws.proofs.RisingLaws.{greater-left}
 use Rattle.ranges.specs.Bars.{row_of, Shows}
 use Rattle.ranges.specs.Sweep.{some, grown, swept_from, swept_ranges, in_order, all_in_order, starts_from, starts_rise}
-use Rattle.ranges.specs.Walks.{IsNext, Tells}
+use Rattle.ranges.specs.Walks.{IsNext, Told}
 use Rattle.ranges.proofs.BarLaws.{more, shows}
 use Rattle.ranges.proofs.SweepLaws.{starts-in_order, swept-opens, swept-extends, order-opens, order-extends}
 use Rattle.ranges.proofs.TakenLaws.{taken-opens, taken-extends}
@@ -29,6 +31,13 @@ some-swept : (r : Range) (qs : List Range) → 1 ≤ length (swept_from r qs)
 unfolding swept_from
 some-swept r [] = omega arith
 some-swept r (q ∷ qs) = by-test (λ l. 1 ≤ length l) (lt_z r.end q.start) {x = r ∷ swept_from q qs} (λ _. omega arith) (λ _. some-swept (grown r q) qs)
+
+-- a test of two signed numbers, as they are handed on
+pub tested : (y z : ℤ) → SFits w64 y → SFits w64 z → {t : Bool} → lt_z (to_z w64 (of_z w64 y)) (to_z w64 (of_z w64 z)) ≡ t → lt_z y z ≡ t
+tested y z f g e = sym (told₂ y z f g lt_z (sym e))
+
+pub same_number : (y z : ℤ) → SFits w64 y → SFits w64 z → of_z w64 y ≡ of_z w64 z → y ≡ z
+same_number y z f g e = sym (to_z-of_z w64 y f) ∙ ap (to_z w64) e ∙ to_z-of_z w64 z g
 
 module _ (room : ℕ) (all : List Range) where
   -- between two ranges, k of them written and i stretches taken
@@ -90,14 +99,13 @@ module _ (room : ℕ) (all : List Range) where
               lasting = lt_test far;
             })
 
-        -- one that starts before it is out of order
+        -- at one that starts before it, they are out of order
         pub disorder : lt_z q.start r.start ≡ true → all_in_order all ≡ false
         disorder s = sym inv.order ∙ ap (in_order r) n.next ∙ order-extends r q rest t ∙ rw (gt-test (test-lt s))
 
       -- one that starts where the range ends makes it end where the stretch does
-      pub touches : (x : Range) → x.start ≡ r.start → x.end ≡ q.end → same_int r.end q.start ≡ true → Inside spans x k (i + 1)
-      touches x a b t =
-          let same : r.end ≡ q.start = same_int_lem r.end q.start t in
+      pub touches : (x : Range) → x.start ≡ r.start → x.end ≡ q.end → r.end ≡ q.start → Inside spans x k (i + 1)
+      touches x a b same =
           let later : lt_z r.end q.end ≡ true = rw same n.lasting in
           let e : q.end ≡ greater_of r.end q.end = rw later in
           let from : r.start <ℤ q.start = rw (← same) (test-lt inv.lasting) in
@@ -180,70 +188,55 @@ module _ (room : ℕ) (all : List Range) where
 -- ---- what the walk tells where it ends
 
 module _ (room : ℕ) (all : List Range) (spans : List (List ℤ)) where
-  pub tells_none : length all ≡ 0 → Tells room all spans (record { taken = 0; ranges = 0; ordered = true })
+  pub tells_none : length all ≡ 0 → Told room all spans (record { taken = 0; ranges = 0 })
   unfolding taken_of swept_ranges
   tells_none e = go all e
     where
-      go : (l : List Range) → length l ≡ 0 → Tells room l spans (record { taken = 0; ranges = 0; ordered = true })
+      go : (l : List Range) → length l ≡ 0 → Told room l spans (record { taken = 0; ranges = 0 })
       go [] e = record {
-        unordered = λ c. clash c;
-        taken = λ c. refl;
-        shows = λ c h. (record { rows = refl; count = refl; few = omega arith }, refl);
+        taken = refl;
+        shows = λ h. (record { rows = refl; count = refl; few = omega arith }, refl);
         early = λ h. absurd (omega arith);
       }
       go (q ∷ qs) e = absurd (omega arith)
 
-  pub tells-no-room : room ≡ 0 → 0 < length all → Tells room all spans (record { taken = 1; ranges = 1; ordered = true })
+  pub tells-no-room : room ≡ 0 → 0 < length all → Told room all spans (record { taken = 1; ranges = 1 })
   unfolding taken_of swept_ranges
   tells-no-room none some = rw none (go all some)
     where
-      go : (l : List Range) → 0 < length l → Tells 0 l spans (record { taken = 1; ranges = 1; ordered = true })
+      go : (l : List Range) → 0 < length l → Told 0 l spans (record { taken = 1; ranges = 1 })
       go [] h = absurd (omega arith)
       go (q ∷ qs) h = record {
-        unordered = λ c. clash c;
-        taken = λ c. refl;
-        shows = λ c l. absurd (omega arith);
+        taken = refl;
+        shows = λ l. absurd (omega arith);
         early = λ l. record { more = some-swept q qs; some = omega arith; few = omega arith; order = λ s. starts-in_order q qs s };
       }
 
 module _ (room : ℕ) (all : List Range) {spans : List (List ℤ)} {r : Range} {k i : ℕ} (inv : Inside room all spans r k i) where
   -- at the last stretch
   pub tells_all : (n : ℕ) → n ≡ i → drop i all ≡ [] → (after : List (List ℤ)) → after ≡ set spans k (row_of r) → k < places → k < room
-      → Tells room all after (record { taken = n; ranges = k + 1; ordered = true })
+      → Told room all after (record { taken = n; ranges = k + 1 })
   tells_all n e none after w few fits = record {
-    unordered = λ c. clash c;
-    taken = λ c. e ∙ ends-taken room all inv none;
-    shows = λ c h. (ends-shown room all inv none after w few, ends-order room all inv none);
+    taken = e ∙ ends-taken room all inv none;
+    shows = λ h. (ends-shown room all inv none after w few, ends-order room all inv none);
     early = λ h. absurd (omega arith);
   }
 
-  module _ {q : Range} (n : IsNext all i q) where
-    -- at the first of a range too many
-    pub tells-early : (t : lt_z r.end q.start ≡ true) → k + 1 ≡ room → k < places → i < length all → (after : List (List ℤ))
-        → Tells room all after (record { taken = i + 1; ranges = k + 1 + 1; ordered = true })
-    tells-early t full few h after =
-        let back : i + 1 - 1 ≡ i = omega arith in
-        record {
-          unordered = λ c. clash c;
-          taken = λ c. too-many-taken room all inv n t full;
-          shows = λ c l. absurd (omega arith);
-          early = λ l. record {
-            more = too_many room all inv n t full few;
-            some = omega arith;
-            few = omega arith;
-            order = λ s. too-many-order room all inv n t full (rw back at s);
-          };
-        }
-
-    -- at one out of order
-    pub tells-disorder : lt_z r.end q.start ≡ false → lt_z q.start r.start ≡ true → (after : List (List ℤ))
-        → Tells room all after (record { taken = 0; ranges = 0; ordered = false })
-    tells-disorder t s after = record {
-      unordered = λ c. disorder room all inv n t s;
-      taken = λ c. clash (sym c);
-      shows = λ c l. clash (sym c);
-      early = λ l. absurd (omega arith);
-    }
+  -- at the first of a range too many
+  pub tells-early : {q : Range} (n : IsNext all i q) (t : lt_z r.end q.start ≡ true) → k + 1 ≡ room → k < places → i < length all → (after : List (List ℤ))
+      → Told room all after (record { taken = i + 1; ranges = k + 1 + 1 })
+  tells-early n t full few h after =
+      let back : i + 1 - 1 ≡ i = omega arith in
+      record {
+        taken = too-many-taken room all inv n t full;
+        shows = λ l. absurd (omega arith);
+        early = λ l. record {
+          more = too_many room all inv n t full few;
+          some = omega arith;
+          few = omega arith;
+          order = λ s. too-many-order room all inv n t full (rw back at s);
+        };
+      }
 
 -- ---- the loop that tests whether stretches rise
 

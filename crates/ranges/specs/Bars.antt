@@ -2,7 +2,6 @@
 use Rattle.std.specs.Prelude.{◌≡◌, true, List, [], ◌∷◌, ℕ, ◌+◌, ◌≤◌, ◌<◌, ℤ, pos, length, take, drop, get_or}
 use Rattle.buffer_state.specs.Answers.{laid_ranges, range_count, ranges_after}
 use Rattle.buffer_state.specs.Refusals.{CallResult}
-use Rattle.buffer_state.specs.declared.Count.{Count}
 use Rattle.buffer_state.specs.declared.Frame.{Frame}
 use Rattle.buffer_state.specs.Lent.{frames_of, Lengths}
 use Rattle.buffer_state.specs.Limits.{places}
@@ -64,6 +63,6 @@ pub record Meets (xs : List (List ℤ)) (m : ℕ) (ys : List (List ℤ)) (n : �
 -- ---- a report
 
 -- a call's answer and its lent list are those of the definition's result
-pub record Reported (r : Count) (after : List (List ℤ)) (result : CallResult (List Range)) (before : List (List ℤ)) : Type 0 where
+pub record Reported (r : CallResult ℕ) (after : List (List ℤ)) (result : CallResult (List Range)) (before : List (List ℤ)) : Type 0 where
   pub answer : r ≡ range_count result
   pub list : after ≡ ranges_after result before

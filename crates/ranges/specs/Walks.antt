@@ -1,5 +1,5 @@
 -- A walk over stretches in some order, with room for so many ranges: the order, and what the walk tells.
-use Rattle.std.specs.Prelude.{◌≡◌, Bool, true, false, cond, List, [], ◌∷◌, map, ℕ, zero, suc, ◌+◌, ◌-◌, ◌%◌, ◌≤◌, ◌<◌, ℤ, length, take, drop, get_or}
+use Rattle.std.specs.Prelude.{◌≡◌, Bool, true, false, List, [], ◌∷◌, map, ℕ, zero, suc, ◌+◌, ◌-◌, ◌%◌, ◌≤◌, ◌<◌, ℤ, length, drop, get_or, Option, None, Some}
 use Rattle.buffer_state.specs.declared.Frame.{Frame}
 use Rattle.buffer_state.specs.Layout.{zero_frame}
 use Rattle.buffer_state.specs.Lent.{frames_of, Lengths}
@@ -9,6 +9,7 @@ use Rattle.buffer_state.specs.Run.{count}
 use Rattle.buffer_state.specs.Walked.{interval_of, taken_of}
 use Rattle.buffer_state.specs.WellFormed.{all_of}
 use Rattle.ranges.specs.declared.Order.{Order}
+use Rattle.ranges.specs.declared.Order.TheVariants.{Stored, Keyed}
 use Rattle.ranges.specs.declared.Walk.{Walk}
 use Rattle.ranges.specs.Bars.{Shows, Bars}
 use Rattle.ranges.specs.Sweep.{is_sound, some, key_of, swept_ranges, all_in_order, starts_rise}
@@ -42,23 +43,28 @@ pub record Standing (ts : List (List ℤ)) (gs : List (List ℕ)) (first n : ℕ
 -- ---- an order
 
 -- the places in their order: a key names one
-abbrev pub places_in : Order → List ℕ → List ℕ
-places_in o keys = cond o.stored (up_from o.count o.first) (map (λ key. key % places) (take o.count keys))
+abbrev pub places_in : Order → List ℕ
+places_in (Stored first count) = up_from count first
+places_in (Keyed keys) = map (λ key. key % places) keys.now
 
-abbrev pub stretches_in : List Frame → Order → List ℕ → List Range
-stretches_in fs o keys = map (stretch_at fs) (places_in o keys)
+abbrev pub count_in : Order → ℕ
+count_in (Stored first count) = count
+count_in (Keyed keys) = length keys.now
+
+abbrev pub stretches_in : List Frame → Order → List Range
+stretches_in fs o = map (stretch_at fs) (places_in o)
 
 -- all its places are there
-pub record Named (o : Order) (keys : List ℕ) : Type 0 where
-  pub standing : o.stored ≡ true → o.first + o.count ≤ places
-  pub keyed : o.stored ≡ false → o.count ≤ length keys
+abbrev pub Named : Order → Type 0
+Named (Stored first count) = first + count ≤ places
+Named (Keyed keys) = Unit {0}
 
 -- and hold sound frames
-pub record Ordered (ts : List (List ℤ)) (gs : List (List ℕ)) (o : Order) (keys : List ℕ) : Type 0 where
+pub record Ordered (ts : List (List ℤ)) (gs : List (List ℕ)) (o : Order) : Type 0 where
   pub long : Lengths ts gs
-  pub few : o.count ≤ places
-  pub named : Named o keys
-  pub each : all_of (sound_at (frames_of ts gs)) (places_in o keys) ≡ true
+  pub few : count_in o ≤ places
+  pub named : Named o
+  pub each : all_of (sound_at (frames_of ts gs)) (places_in o) ≡ true
 
 -- the stretch at i
 pub record IsNext (all : List Range) (i : ℕ) (r : Range) : Type 0 where
@@ -75,11 +81,15 @@ pub record IsEarly (room : ℕ) (all : List Range) (w : Walk) : Type 0 where
   pub order : starts_rise (drop (w.taken - 1) all) ≡ true → all_in_order all ≡ true
 
 -- what a walk tells of stretches in their order
-pub record Tells (room : ℕ) (all : List Range) (spans : List (List ℤ)) (w : Walk) : Type 0 where
-  pub unordered : w.ordered ≡ false → all_in_order all ≡ false
-  pub taken : w.ordered ≡ true → w.taken ≡ taken_of room all
-  pub shows : w.ordered ≡ true → w.ranges ≤ room → Shows spans w.ranges (swept_ranges all) × (all_in_order all ≡ true)
+pub record Told (room : ℕ) (all : List Range) (spans : List (List ℤ)) (w : Walk) : Type 0 where
+  pub taken : w.taken ≡ taken_of room all
+  pub shows : w.ranges ≤ room → Shows spans w.ranges (swept_ranges all) × (all_in_order all ≡ true)
   pub early : room < w.ranges → IsEarly room all w
+
+-- and of others, nothing but that they are not in order
+abbrev pub Tells : ℕ → List Range → List (List ℤ) → Option Walk → Type 0
+Tells room all spans None = all_in_order all ≡ false
+Tells room all spans (Some w) = Told room all spans w
 
 -- the same stretches, and none of them starts before the range that is open when a walk comes to it
 pub record Arranges (l all : List Range) : Type 0 where

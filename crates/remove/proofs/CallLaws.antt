@@ -1,4 +1,5 @@
 -- The call: a removal in the words of the code is the definition's, and its refusals come in the definition's order.
+use Rattle.std.specs.Prelude.{Option, Ok, Err}
 use mathlib.Core.Path.{◌≡◌, refl, sym, ap, ◌∙◌}
 use mathlib.Core.Bool.{Bool, true, false, cond, not, ◌&&◌, ◌||◌}
 use mathlib.Core.List.{List, []}
@@ -18,7 +19,7 @@ use Rattle.buffer_state.specs.Buffer.{Buffer, with_frames, in_last_group}
 use Rattle.buffer_state.specs.Layout.{buffer_of}
 use Rattle.buffer_state.specs.Lent.{state_at, head_of, well_formed_at}
 use Rattle.buffer_state.specs.Limits.{places}
-use Rattle.buffer_state.specs.Refusals.{CallResult, refused, done}
+use Rattle.buffer_state.specs.Refusals.{CallResult}
 use Rattle.buffer_state.specs.Remove.{before_bound, removal_marks, after_loss, removal_lacks_group, removed_outcome, remove}
 use Rattle.buffer_state.specs.Store.{Marked, kept, lines_of}
 use Rattle.buffer_state.specs.WellFormed.{all_of}
@@ -26,11 +27,7 @@ use Rattle.buffer_laws.proofs.LentLaws.{ill-formed-refused, on-well_formed}
 use Rattle.taking.specs.declared.Span.{Span}
 use Rattle.taking.specs.Taking.{in_spans, taken_marks}
 use Rattle.taking.proofs.GoneLaws.{none-marked, none-gone}
-use Rattle.taking.specs.declared.Instant.{Instant}
-use Rattle.remove.specs.declared.Stretch.{Stretch}
-use Rattle.remove.specs.declared.Stretch.TheVariants.{Over, Refused}
-use Rattle.taking.specs.Loss.{bound_in}
-use Rattle.remove.specs.Edges.{instant_of, in_order, stretch_of, FarSpans}
+use Rattle.remove.specs.Edges.{bound_at, instant_of, in_order, stretch_of, FarSpans}
 use Rattle.remove.specs.Loss.{loss_of, is_loss, over_result, settled_by}
 use Rattle.remove.proofs.StretchLaws.{bound-back}
 use Rattle.remove.proofs.PlaceLaws.{held}
@@ -74,7 +71,7 @@ module _ (h : Head) (ts : List (List ℤ)) (gs : List (List ℕ)) (w : well_form
   -- ---- none goes
 
   pub nothing-goes : all_of (λ (g : Frame). not (in_spans spans g)) frames ≡ true
-      → over_result start end (held h ts gs) ≡ done (record { after = held h ts gs; lines = [] })
+      → over_result start end (held h ts gs) ≡ Ok (record { after = held h ts gs; lines = [] })
   unfolding removed_outcome over_result
   nothing-goes none =
       let b = held h ts gs in
@@ -83,29 +80,30 @@ module _ (h : Head) (ts : List (List ℤ)) (gs : List (List ℕ)) (w : well_form
       let gone = none-gone (in_spans spans) 6 frames none in
       let room : removal_lacks_group start end b ≡ false = loss-decides ∙ ap (λ (l : Bound). is_loss l && in_last_group b) lost in
       rw room
-      (λ j. done (record { after = with_frames (after j) ((ap kept (sym same) ∙ gone.0) j); lines = (ap lines_of (sym same) ∙ gone.1) j }))
+      (λ j. Ok (record { after = with_frames (after j) ((ap kept (sym same) ∙ gone.0) j); lines = (ap lines_of (sym same) ∙ gone.1) j }))
 
 -- ---- the refusals
 
-pub over-refused : (s : ℤ) (e : Bound) (b : Buffer) → removal_lacks_group s e b ≡ true → over_result s e b ≡ refused LastNumber
+pub over-refused : (s : ℤ) (e : Bound) (b : Buffer) → removal_lacks_group s e b ≡ true → over_result s e b ≡ Err LastNumber
 unfolding over_result
 over-refused s e b l = rw l
 
-pub over_done : (s : ℤ) (e : Bound) (b : Buffer) → removal_lacks_group s e b ≡ false → over_result s e b ≡ done (removed_outcome s e b)
+pub over_done : (s : ℤ) (e : Bound) (b : Buffer) → removal_lacks_group s e b ≡ false → over_result s e b ≡ Ok (removed_outcome s e b)
 unfolding over_result
 over_done s e b l = rw l
 
 -- what a stretch is answered
-abbrev pub over_stretch : Buffer → Stretch → CallResult Outcome
-over_stretch b (Over start end) = over_result start (bound_in end) b
-over_stretch b (Refused why) = refused why
+abbrev pub over_stretch : Buffer → CallResult (ℤ × Option ℤ) → CallResult Outcome
+over_stretch b (Ok s) = over_result s.0 (bound_at s.1) b
+over_stretch b (Err why) = Err why
 
-order-tests : (b : Buffer) (t : Bool) (z : ℤ) (i : Instant)
-    → cond t (refused Order) (over_result z (bound_in i) b) ≡ over_stretch b (cond t (Refused Order) (Over z i))
+order-tests : (b : Buffer) (t : Bool) (z : ℤ) (i : Option ℤ)
+    → cond t (Err Order) (over_result z (bound_at i) b) ≡ over_stretch b (cond t (Err Order) (Ok (z, i)))
 order-tests b true z i = refl
 order-tests b false z i = refl
 
-stretch-tests : (b : Buffer) (t : Bool) (r : CallResult Outcome) (p : Stretch) → r ≡ over_stretch b p → cond t (refused Seconds) r ≡ over_stretch b (cond t (Refused Seconds) p)
+stretch-tests : (b : Buffer) (t : Bool) (r : CallResult Outcome) (p : CallResult (ℤ × Option ℤ)) → r ≡ over_stretch b p
+    → cond t (Err Seconds) r ≡ over_stretch b (cond t (Err Seconds) p)
 stretch-tests b true r p e = refl
 stretch-tests b false r p e = e
 
@@ -113,11 +111,11 @@ module _ (lent : ℕ) (start end : Float) (h : Head) (ts : List (List ℤ)) (gs 
   abbrev result : CallResult Outcome
   result = remove_result lent start end h ts gs
 
-  pub ill-formed : well_formed_at h ts gs ≡ false → result ≡ refused IllFormed
+  pub ill-formed : well_formed_at h ts gs ≡ false → result ≡ Err IllFormed
   unfolding remove_result
   ill-formed = ill-formed-refused (remove lent start end) h ts gs
 
-  pub short-list : well_formed_at h ts gs ≡ true → lent < places → result ≡ refused ShortFates
+  pub short-list : well_formed_at h ts gs ≡ true → lent < places → result ≡ Err ShortFates
   unfolding remove_result remove
   short-list w k = on-well_formed (remove lent start end) h ts gs w ∙ rw (lt-ltb lent places k)
 
@@ -129,6 +127,6 @@ module _ (lent : ℕ) (start end : Float) (h : Head) (ts : List (List ℤ)) (gs 
       let z = micros_of start in
       let i = instant_of (bound_of end) in
       let order : Bound → Bool = λ (d : Bound). lt_z z (pos 0) || not (before_bound z d) in
-      let judged = ap (λ (d : Bound). cond (order d) (refused Order) (over_result z d b)) (sym (bound-back (bound_of end))) ∙ order-tests b (order (bound_in i)) z i in
+      let judged = ap (λ (d : Bound). cond (order d) (Err Order) (over_result z d b)) (sym (bound-back (bound_of end))) ∙ order-tests b (order (bound_at i)) z i in
       on-well_formed (remove lent start end) h ts gs w
       ∙ rw (le-ltb lent places k) (stretch-tests b (not (is_convertible start) || not (is_convertible_end end)) _ (in_order z i) judged)

@@ -1,4 +1,5 @@
 -- The first frame that goes and ends its track, one frame after another; and the head after its loss is the definition's buffer, laid out.
+use Rattle.std.specs.Prelude.{Option, None, Some, is_some}
 use mathlib.Core.Path.{◌≡◌, refl, sym, ap, ◌∙◌}
 use mathlib.Core.Bool.{Bool, true, false, cond, ◌&&◌, ◌||◌}
 use mathlib.Core.List.{List, [], ◌∷◌, map}
@@ -23,7 +24,6 @@ use Rattle.buffer_laws.proofs.TestLaws.{all_first, all_rest}
 use Rattle.places.proofs.ListLaws.{full-all}
 use Rattle.taking.specs.declared.Span.{Span}
 use Rattle.taking.specs.Taking.{in_spans, taken_marks}
-use Rattle.taking.specs.declared.Instant.{Instant}
 use Rattle.taking.specs.Loss.{bound_in, loss_of as loss_in}
 use Rattle.taking.proofs.MarkLaws.{still}
 use Rattle.remove.specs.Loss.{loss_of, is_loss, settled_by}
@@ -47,13 +47,10 @@ module _ (h : Head) (ts : List (List ℤ)) (gs : List (List ℕ)) (w : well_form
   pub taken-loss : (spans : List Span) → loss_in (zero_track ∷ h.tracks) (taken_marks spans 6 (held h ts gs).frames) ≡ loss_of (held h ts gs) (taken_marks spans 6 (held h ts gs).frames)
   taken-loss spans = marks-loss (taken_marks spans 6 (held h ts gs).frames) (rw (marks-frames (in_spans spans) 6 (held h ts gs).frames) (each-good h ts gs w))
 
--- an instant is a loss where it is set
-pub set-loss : (i : Instant) → i.set ≡ is_loss (bound_in i)
-set-loss i = go i.set
-  where
-    go : (t : Bool) → t ≡ is_loss (cond t (at i.micros) unbounded)
-    go true = refl
-    go false = refl
+-- an instant is a loss where there is one
+pub set-loss : (o : Option ℤ) → is_some o ≡ is_loss (bound_in o)
+set-loss None = refl
+set-loss (Some z) = refl
 
 -- refusal 9 asks for both
 pub nothing-lacks : (l : Bound) (last : Bool) → last ≡ false → (is_loss l && last) ≡ false

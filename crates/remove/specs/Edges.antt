@@ -1,37 +1,35 @@
--- A removal in the words of the code: instants that are set or not, and the stretches up to the far edges of all tracks in one array.
-use Rattle.std.specs.Prelude.{Bool, true, false, cond, not, ◌&&◌, ◌||◌, List, ◌≡◌, ℕ, ◌<◌, ℤ, pos, Float, get_or}
+-- A removal in the words of the code: instants or none, and the stretches up to the far edges of all tracks in one array.
+use Rattle.std.specs.Prelude.{Bool, true, false, cond, not, ◌&&◌, ◌||◌, List, ◌≡◌, ℕ, ◌<◌, ℤ, pos, Float, get_or, Option, None, Some, Ok, Err}
 use Rattle.std.specs.Int.Signed.{lt_z}
 use Rattle.seconds.specs.Seconds.{Bound, unbounded, at, is_convertible, is_convertible_end, micros_of, bound_of}
 use Rattle.buffer_state.specs.declared.Frame.{Frame}
 use Rattle.buffer_state.specs.declared.Refusal.TheVariants.{Seconds, Order}
+use Rattle.buffer_state.specs.Refusals.{CallResult}
 use Rattle.buffer_state.specs.Remove.{before_bound, far_edge}
 use Rattle.taking.specs.declared.Span.{Span}
 use Rattle.taking.specs.Taking.{no_span}
-use Rattle.taking.specs.declared.Instant.{Instant}
-use Rattle.taking.specs.Loss.{bound_in}
-use Rattle.remove.specs.declared.Stretch.{Stretch}
-use Rattle.remove.specs.declared.Stretch.TheVariants.{Over, Refused}
 
 -- ---- bounds
 
--- no instant, kept as zero
-abbrev pub nowhere : Instant
-nowhere = record { set = false; micros = pos 0 }
+-- the bound that an instant is, or none
+abbrev pub bound_at : Option ℤ → Bound
+bound_at None = unbounded
+bound_at (Some z) = at z
 
--- the instant that holds a bound
-abbrev pub instant_of : Bound → Instant
-instant_of unbounded = nowhere
-instant_of (at z) = record { set = true; micros = z }
+-- and back
+abbrev pub instant_of : Bound → Option ℤ
+instant_of unbounded = None
+instant_of (at z) = Some z
 
 -- ---- the stretch of time
 
 -- refusal 6, or the start and the end
-abbrev pub in_order : ℤ → Instant → Stretch
-in_order s e = cond (lt_z s (pos 0) || not (before_bound s (bound_in e))) (Refused Order) (Over s e)
+abbrev pub in_order : ℤ → Option ℤ → CallResult (ℤ × Option ℤ)
+in_order s e = cond (lt_z s (pos 0) || not (before_bound s (bound_at e))) (Err Order) (Ok (s, e))
 
 -- refusal 5 of either time, then by the order
-abbrev pub stretch_of : Float → Float → Stretch
-stretch_of start end = cond (not (is_convertible start) || not (is_convertible_end end)) (Refused Seconds) (in_order (micros_of start) (instant_of (bound_of end)))
+abbrev pub stretch_of : Float → Float → CallResult (ℤ × Option ℤ)
+stretch_of start end = cond (not (is_convertible start) || not (is_convertible_end end)) (Err Seconds) (in_order (micros_of start) (instant_of (bound_of end)))
 
 -- ---- far edges
 

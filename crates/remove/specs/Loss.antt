@@ -1,12 +1,12 @@
 -- The rule on the last decode time in the words of the code: where the first frame that ends its track was shown, and the head after it.
-use Rattle.std.specs.Prelude.{Bool, true, false, cond, ◌&&◌, List, [], ◌∷◌, ◌++◌, ℕ, ℤ, take, drop}
+use Rattle.std.specs.Prelude.{Bool, true, false, cond, ◌&&◌, List, [], ◌∷◌, ◌++◌, ℕ, ℤ, take, drop, Ok}
 use Rattle.seconds.specs.Seconds.{Bound, unbounded, at, same_int}
 use Rattle.buffer_state.specs.declared.Head.{Head}
 use Rattle.buffer_state.specs.declared.Refusal.TheVariants.{LastNumber}
 use Rattle.buffer_state.specs.declared.Track.{Track}
 use Rattle.buffer_state.specs.Append.{Outcome}
 use Rattle.buffer_state.specs.Buffer.{Buffer, track_of, restart_all, is_sequence, start_at_end, with_end, next_group}
-use Rattle.buffer_state.specs.Refusals.{CallResult, done, refuse_if}
+use Rattle.buffer_state.specs.Refusals.{CallResult, refuse_if}
 use Rattle.buffer_state.specs.Remove.{removal_lacks_group, removed_outcome}
 use Rattle.buffer_state.specs.Store.{Marked, is_taken}
 
@@ -26,7 +26,7 @@ is_loss (at p) = true
 
 -- a removal from one instant to another, after refusal 9
 unfoldable pub over_result : ℤ → Bound → Buffer → CallResult Outcome
-over_result s e b = refuse_if (removal_lacks_group s e b) LastNumber (done (removed_outcome s e b))
+over_result s e b = refuse_if (removal_lacks_group s e b) LastNumber (Ok (removed_outcome s e b))
 
 -- the head after such a loss: regrouped there, every track begun again, in the next group
 abbrev pub settled_by : Bound → ℕ → Head → Head

@@ -1,121 +1,67 @@
-// A batch line by line: its own, then those of its frames, whose rows are kept in a lent array until the last of them is read.
-ghost use Rattle.std.specs.Prelude.{◌≤◌};
-
-use crate::calls::{Call, Parsed};
+// A batch line by line: its own, then those of its frames, which are kept until the last of them is read.
+use crate::calls::offered;
+use crate::lines::Line;
 use crate::marks::MOST_LENT;
-use crate::{answers, calls, unread};
-use script::words::{Room, Words, lent, word};
-use slots::Batch;
-use std::io::Write;
-use text::Output;
-use text::read::Small;
-
-// ---- its own line
+use crate::unread::Told;
+use script::words::{Unmade, Words};
+use std::alloc::{AllocError, Global};
 
 const LINES: usize = 1088; // the lines lent where the script says nothing
 
-#[derive(Clone, Copy)]
-pub enum Opened {
-    Is(Batch),
-    Not,
+const MOST_FRAMES: usize = 65; // one more than a batch may have, as more are refused like 65
+
+// A batch whose frames stand in the lines after it: its own line; how many frames are still to come; those that came; and how many fate lines
+// it is lent, unless a line of it could not be read.
+#[derive(Drop)]
+pub struct Batch {
+    pub line: Told,
+    pub left: u32,
+    pub frames: Vec<[i64; 6]>,
+    pub lent: Option<usize>,
 }
 
-// The line that is answered is one of the batch's, and was not read.
-fn not_read<W: Write>(b: Batch, out: &mut Output<W>) -> Batch {
-    unread::note_line(out);
-    Batch { read: false, ..b }
+// How many fate lines the line of a batch says.
+pub fn lines(mut words: Words<'_>) -> Result<usize, Unmade> {
+    let lines = words.lent(b"fates=", MOST_LENT)?.unwrap_or(LINES);
+    words.end()?;
+    Ok(lines)
 }
 
-// The batch with the lines that it is lent. A word that does not say so many is noted here, and answered when the call would be made.
-fn with_lines<W: Write>(b: Batch, line: &[u8], w: Words, out: &mut Output<W>) -> Batch {
-    let Room::Is(lines) = lent(line, w, 2, b"fates=", LINES) else {
-        return not_read(b, out);
-    };
-    if MOST_LENT < lines {
-        return not_read(b, out);
+// The frame that an append would offer. It has the words of an append, and none after them; a script names no size.
+pub fn frame_of(line: Line<'_>, mut words: Words<'_>) -> Result<[i64; 6], Unmade> {
+    if line.cut {
+        return Err(Unmade::Unknown);
     }
-    Batch { lines, ..b }
-}
-
-// Without the number of its frames no line after it is known to be one of them.
-pub fn begun<W: Write>(line: &[u8], w: Words, out: &mut Output<W>) -> Opened {
-    let Small::Is(left) = calls::natural(word(line, w, 1)) else {
-        return Opened::Not;
-    };
-    let mut b = slots::no_batch();
-    b.line = out.notes[unread::LINE];
-    b.left = left;
-    Opened::Is(with_lines(b, line, w, out))
-}
-
-// ---- the lines of its frames
-
-// A frame has the words of an append, and none after them.
-fn frame_of(line: &[u8], cut: bool, w: Words) -> Parsed {
-    if cut {
-        return Parsed::Unknown;
-    }
-    if w.count != 6 {
-        return Parsed::Unknown;
-    }
-    calls::frame_call(line, w)
-}
-
-// The frame that an append would offer. A script names no size.
-fn row_of(c: Call) -> [i64; 6] {
-    [
-        c.track as i64,
-        c.pts,
-        c.dts,
-        c.duration as i64,
-        c.flag as i64,
+    let frame = offered(&mut words)?;
+    words.end()?;
+    Ok([
+        i64::from(frame.track),
+        frame.pts,
+        frame.dts,
+        i64::from(frame.duration),
+        i64::from(frame.flagged),
         0,
-    ]
+    ])
 }
 
-// More rows than there is room for are refused whatever they hold, so that those past the last place are left out.
-fn keep(b: Batch, row: [i64; 6], rows: &mut [[i64; 6]]) -> Batch {
-    let k = b.rows;
-    if rows.len() <= k {
-        return b;
+impl Batch {
+    pub fn new(alloc: Global, line: Told, left: u32, lent: Option<usize>) -> Self {
+        Batch {
+            line,
+            left,
+            frames: Vec::new(alloc),
+            lent,
+        }
     }
-    rows[k] = row;
-    Batch { rows: k + 1, ..b }
-}
 
-pub fn with_frame<W: Write>(
-    b: Batch,
-    line: &[u8],
-    cut: bool,
-    w: Words,
-    rows: &mut [[i64; 6]],
-    out: &mut Output<W>,
-) -> Batch
-    requires { 1 ≤ b.left }
-{
-    let mut d = b;
-    d.left -= 1;
-    match frame_of(line, cut, w) {
-        Parsed::Call(c) => keep(d, row_of(c), rows),
-        Parsed::Unknown => not_read(d, out),
+    // One of its frames came, or a line of one that could not be read.
+    pub fn come(&mut self, frame: Result<[i64; 6], Unmade>) -> Result<(), AllocError> {
+        self.left = self.left.saturating_sub(1);
+        match frame {
+            Ok(row) if self.frames.len() < MOST_FRAMES => self.frames.push(row)?,
+            Ok(_) => {}
+            Err(_) => self.lent = None,
+        }
+        Ok(())
     }
-}
-
-// The first n rows.
-pub fn kept(rows: &[[i64; 6]], n: usize) -> &[[i64; 6]] {
-    if rows.len() < n {
-        return &rows[..0];
-    }
-    &rows[0..n]
-}
-
-// A batch whose frames do not all come. Where each line that came was read, it is the batch's own that was not.
-pub fn cut_short<W: Write>(b: Batch, out: &mut Output<W>) {
-    if b.left == 0 {
-        return;
-    }
-    if b.read {
-        unread::note(b.line, out);
-    }
-    answers::unknown_batch(out);
 }

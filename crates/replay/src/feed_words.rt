@@ -1,62 +1,24 @@
 // The call `feed`, which needs no buffer: of two strings of bytes, what to feed.
 use crate::answers;
-use crate::calls::natural;
-use crate::segment_words::{Bytes, MOST_BYTES, read_bytes};
-use script::words::{Words, part, word};
+use crate::answers::Answer;
+use crate::fault::Fault;
+use crate::segment_words::bytes_of;
+use script::words::{Unmade, Words};
+use std::alloc::Global;
 use std::io::Write;
-use text::Output;
-use text::read::Small;
 
-// The bytes of the two last words, once what is asked for is known. A place beyond 32 bits overruns any line's bytes as the last of them
-// does.
-fn on_bytes<W: Write>(
-    line: &[u8],
-    w: Words,
-    whole: bool,
-    start: u32,
-    end: u32,
-    out: &mut Output<W>,
-) {
-    let mut initialization = [0u8; MOST_BYTES];
-    let mut segment = [0u8; MOST_BYTES];
-    let Bytes::Are(i) = read_bytes(word(line, w, 4), &mut initialization) else {
-        answers::unknown(out);
-        return;
+// By the words after `feed`. A place beyond 32 bits overruns any line's bytes as the last of them does.
+pub fn call(alloc: Global, mut words: Words<'_>, out: &mut impl Write) -> Result<(), Fault> {
+    let whole = match words.word()? {
+        b"init" => true,
+        b"segment" => false,
+        _ => return Err(Fault::from(Unmade::Unknown)),
     };
-    let Bytes::Are(n) = read_bytes(word(line, w, 5), &mut segment) else {
-        answers::unknown(out);
-        return;
-    };
-    answers::fed(
-        feed::feed(
-            part(&initialization, 0, i),
-            part(&segment, 0, n),
-            whole,
-            start as usize,
-            end as usize,
-        ),
-        out,
-    );
-}
-
-pub fn call<W: Write>(line: &[u8], w: Words, out: &mut Output<W>) {
-    if w.count != 6 {
-        answers::unknown(out);
-        return;
-    }
-    let of = word(line, w, 1);
-    let whole = of == b"init".as_slice();
-    if !whole && of != b"segment".as_slice() {
-        answers::unknown(out);
-        return;
-    }
-    let Small::Is(start) = natural(word(line, w, 2)) else {
-        answers::unknown(out);
-        return;
-    };
-    let Small::Is(end) = natural(word(line, w, 3)) else {
-        answers::unknown(out);
-        return;
-    };
-    on_bytes(line, w, whole, start, end, out);
+    let start = words.natural()? as usize;
+    let end = words.natural()? as usize;
+    let initialization = bytes_of(alloc, words.word()?)?;
+    let segment = bytes_of(alloc, words.last()?)?;
+    let fed = feed::feed(&initialization, &segment, whole, start, end);
+    answers::tell(out, Ok(Answer::Fed(fed)), true)?;
+    Ok(())
 }

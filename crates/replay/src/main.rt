@@ -1,398 +1,298 @@
 #![tactic(auto)]
 // A script of calls on standard input, and an answer to each on standard output. What could not be read or written is told at the end, on
 // standard error.
-ghost use Rattle.std.specs.Prelude.{◌≤◌};
-
 mod answers;
 mod batches;
 mod calls;
+mod fault;
 mod feed_words;
-mod input;
+mod lines;
 mod lump;
+mod made;
 mod marks;
+mod on_slot;
 mod segment;
 mod segment_words;
-mod slot_calls;
+mod state;
 mod unread;
 
-use batches::Opened;
-use buffer_state::{PLACES, Tags, Times};
-use input::Line;
-use lump::Buffer;
-use lumps::LumpReader;
-use script::words;
-use script::words::Words;
-use slots::{Batch, Session};
-use std::io::{Read, Write};
+use answers::{Answer, tell};
+use batches::{Batch, frame_of};
+use buffer_state::PLACES;
+use fault::Fault;
+use lines::{Line, Lines};
+use lump::Lumps;
+use script::pokes;
+use script::words::{Unmade, Words, natural};
+use slots::{Session, Slot};
+use std::alloc::Global;
+use std::io;
+use std::io::{BufReader, BufWriter, Write};
 use text::Output;
-use unread::Text;
+use unread::{Told, Unread};
 
-const COMMENT: u8 = 35; // `#`
+// What is kept from line to line: the buffers; the reader of lumps, which needs none of them; the batch whose frames are to come.
+#[derive(Drop)]
+struct Replay {
+    alloc: Global,
+    session: Session,
+    lumps: Lumps,
+    batch: Option<Batch>,
+    unread: Unread,
+}
+
+impl Replay {
+    fn new(alloc: Global) -> Self {
+        Replay {
+            alloc,
+            session: Session::new(),
+            lumps: Lumps::new(),
+            batch: None,
+            unread: Unread::none(),
+        }
+    }
+
+    // ---- a line
+
+    // A line that a batch waits for, or one that has an answer of its own.
+    fn on_line(&mut self, line: Line<'_>, out: &mut impl Write) -> io::Result<()> {
+        if line.is_blank() {
+            return Ok(());
+        }
+        let mut words = Words::of(line.text);
+        let Ok(name) = words.word() else {
+            return self.unknown(line, out);
+        };
+        if let Some(batch) = self.batch.take() {
+            if name == b"frame".as_slice() {
+                return self.on_frame(batch, line, words, out);
+            }
+            self.cut_short(batch, out)?;
+        }
+        if line.cut {
+            return self.unknown(line, out);
+        }
+        match self.answer(line, name, words, out) {
+            Ok(()) => Ok(()),
+            Err(Fault::Unmade(Unmade::Unknown)) => self.unknown(line, out),
+            Err(Fault::Unmade(why)) => writeln!(out, "{why}"),
+            Err(Fault::Io(why)) => Err(why),
+        }
+    }
+
+    // The line was not read.
+    fn unknown(&mut self, line: Line<'_>, out: &mut impl Write) -> io::Result<()> {
+        self.unread.note(Told::of(self.alloc, line)?);
+        writeln!(out, "unknown")
+    }
+
+    fn answer(
+        &mut self,
+        line: Line<'_>,
+        name: &[u8],
+        words: Words<'_>,
+        out: &mut impl Write,
+    ) -> Result<(), Fault> {
+        match name {
+            b"batch" => self.begin_batch(line, words, out),
+            b"segment" => segment::call(self.alloc, words, out),
+            b"feed" => feed_words::call(self.alloc, words, out),
+            b"lump" => self.lumps.call(self.alloc, words, out),
+            b"lump-fresh" => self.lumps.fresh(words, out),
+            _ => on_session(&mut self.session, self.alloc, name, words, out),
+        }
+    }
+
+    // ---- a batch
+
+    // Without the number of its frames no line after it is known to be one of them.
+    fn begin_batch(
+        &mut self,
+        line: Line<'_>,
+        mut words: Words<'_>,
+        out: &mut impl Write,
+    ) -> Result<(), Fault> {
+        let left = words.natural()?;
+        let lent = batches::lines(words).ok();
+        if lent.is_none() {
+            self.unread.note(Told::of(self.alloc, line)?);
+        }
+        let batch = Batch::new(self.alloc, Told::of(self.alloc, line)?, left, lent);
+        self.go_on(batch, out)
+    }
+
+    fn on_frame(
+        &mut self,
+        mut batch: Batch,
+        line: Line<'_>,
+        words: Words<'_>,
+        out: &mut impl Write,
+    ) -> io::Result<()> {
+        let frame = frame_of(line, words);
+        if frame.is_err() {
+            self.unread.note(Told::of(self.alloc, line)?);
+        }
+        batch.come(frame)?;
+        match self.go_on(batch, out) {
+            Ok(()) => Ok(()),
+            Err(Fault::Unmade(why)) => writeln!(out, "{why}"),
+            Err(Fault::Io(why)) => Err(why),
+        }
+    }
+
+    // A batch waits for its frames, and has its one answer once no frame is to come. Its lines that were not read are noted apart.
+    fn go_on(&mut self, batch: Batch, out: &mut impl Write) -> Result<(), Fault> {
+        if 0 < batch.left {
+            self.batch = Some(batch);
+            return Ok(());
+        }
+        let Some(lines) = batch.lent else {
+            writeln!(out, "unknown")?;
+            return Ok(());
+        };
+        let slot = self.session.used.as_mut().ok_or(Unmade::NoBuffer)?;
+        on_slot::batch(self.alloc, slot, &batch.frames, lines, out)?;
+        Ok(())
+    }
+
+    // A batch whose frames do not all come. Where each line that came was read, it is the batch's own that was not.
+    fn cut_short(&mut self, batch: Batch, out: &mut impl Write) -> io::Result<()> {
+        if batch.lent.is_some() {
+            self.unread.note(batch.line);
+        }
+        writeln!(out, "unknown")
+    }
+
+    // The script ends.
+    fn end(&mut self, out: &mut impl Write) -> io::Result<()> {
+        match self.batch.take() {
+            Some(batch) => self.cut_short(batch, out),
+            None => Ok(()),
+        }
+    }
+}
 
 // ---- the session
 
-fn with_slot_in_use<W: Write>(s: Session, second: bool, out: &mut Output<W>) -> Session {
-    let mut t = s;
-    t.second_used = second;
-    answers::ok(out);
-    t
+// A call of this name on the session, or on the buffer of the slot in use.
+fn on_session(
+    session: &mut Session,
+    alloc: Global,
+    name: &[u8],
+    words: Words<'_>,
+    out: &mut impl Write,
+) -> Result<(), Fault> {
+    match name {
+        b"buffer" => use_slot(session, words)?,
+        b"save" => {
+            words.end()?;
+            session.save().ok_or(Unmade::NoBuffer)?
+        }
+        b"restore" => {
+            words.end()?;
+            session.restore().ok_or(Unmade::NoBuffer)?
+        }
+        b"poke" => poke(session, words)?,
+        b"create" => return create(session, alloc, words, out),
+        b"state" => return tell_state(session, words, out),
+        _ => return on_buffer(session, alloc, name, words, out),
+    }
+    tell(out, Ok(Answer::Done), true)?;
+    Ok(())
 }
 
-fn buffer<W: Write>(s: Session, line: &[u8], w: Words, out: &mut Output<W>) -> Session {
-    let n = words::word(line, w, 1);
-    if w.count != 2 {
-        answers::unknown(out);
-        return s;
+fn use_slot(session: &mut Session, words: Words<'_>) -> Result<(), Unmade> {
+    match words.last()? {
+        b"1" => session.use_slot(false),
+        b"2" => session.use_slot(true),
+        _ => return Err(Unmade::Unknown),
     }
-    if n == b"1".as_slice() {
-        return with_slot_in_use(s, false, out);
-    }
-    if n == b"2".as_slice() {
-        return with_slot_in_use(s, true, out);
-    }
-    answers::unknown(out);
-    s
+    Ok(())
 }
 
-// The store of the slot in use goes to the saved one.
-fn save<W: Write>(
-    s: Session,
-    w: Words,
-    times: &Times,
-    tags: &Tags,
-    saved_times: &mut Times,
-    saved_tags: &mut Tags,
-    out: &mut Output<W>,
-) -> Session {
-    if w.count != 1 {
-        answers::unknown(out);
-        return s;
+// A poke that cannot be read is told before one that has no buffer, so that one is put to a buffer that no call is made on.
+fn poke(session: &mut Session, words: Words<'_>) -> Result<(), Unmade> {
+    if let Some(slot) = &mut session.used {
+        return pokes::poke(slot, words);
     }
-    let slot = slots::used(s);
-    if !slot.held {
-        answers::none(out);
-        return s;
+    let mut stand_in = Slot::of(settings::no_head(), [[0; 2]; PLACES], [[0; 5]; PLACES]);
+    match pokes::poke(&mut stand_in, words) {
+        Err(Unmade::Unknown) => Err(Unmade::Unknown),
+        _ => Err(Unmade::NoBuffer),
     }
-    slots::copy_store(times, tags, saved_times, saved_tags);
-    let mut t = s;
-    t.saved = slot;
-    answers::ok(out);
-    t
 }
 
-fn restore<W: Write>(
-    s: Session,
-    w: Words,
-    times: &mut Times,
-    tags: &mut Tags,
-    saved_times: &Times,
-    saved_tags: &Tags,
-    out: &mut Output<W>,
-) -> Session {
-    if w.count != 1 {
-        answers::unknown(out);
-        return s;
-    }
-    let slot = s.saved;
-    if !slot.held {
-        answers::none(out);
-        return s;
-    }
-    slots::copy_store(saved_times, saved_tags, times, tags);
-    answers::ok(out);
-    slots::with_used(s, slot)
+// Any number from 0 up is a kind: one beyond a byte is as unknown as 255.
+fn kind(word: &[u8]) -> Result<u8, Unmade> {
+    Ok(u8::try_from(natural(word)?).unwrap_or(u8::MAX))
 }
 
-// A batch has its one answer once no frame is to come.
-fn gathered<W: Write>(
-    s: Session,
-    b: Batch,
-    rows: &[[i64; 6]],
-    times: &mut Times,
-    tags: &mut Tags,
-    out: &mut Output<W>,
-) -> Session {
-    let mut t = s;
-    t.batch = b;
-    if 0 < b.left {
-        return t;
-    }
-    if !b.read {
-        answers::unknown_batch(out);
-        return t;
-    }
-    let frames = batches::kept(rows, b.rows);
-    let c = calls::batch_call(b.lines);
-    let slot = slot_calls::on_call(slots::used(t), c, frames, times, tags, out);
-    slots::with_used(t, slot)
-}
-
-fn begin_batch<W: Write>(
-    s: Session,
-    line: &[u8],
-    w: Words,
-    rows: &[[i64; 6]],
-    times: &mut Times,
-    tags: &mut Tags,
-    out: &mut Output<W>,
-) -> Session {
-    match batches::begun(line, w, out) {
-        Opened::Is(b) => gathered(s, b, rows, times, tags, out),
-        Opened::Not => {
-            answers::unknown(out);
-            s
+// The kinds of tracks, all the words that are left.
+fn kinds(alloc: Global, words: Words<'_>) -> Result<Vec<u8>, Fault> {
+    let mut kinds = Vec::new(alloc);
+    if let Some(rest) = words.rest() {
+        for word in rest.split(|b| *b == b' ') {
+            kinds.push(kind(word)?)?;
         }
     }
+    Ok(kinds)
 }
 
-// A line on the store of the slot in use, with the saved one beside it.
-fn on_session<W: Write>(
-    s: Session,
-    line: &[u8],
-    w: Words,
-    rows: &[[i64; 6]],
-    times: &mut Times,
-    tags: &mut Tags,
-    saved_times: &mut Times,
-    saved_tags: &mut Tags,
-    out: &mut Output<W>,
-) -> Session {
-    let name = words::word(line, w, 0);
-    if name == b"buffer".as_slice() {
-        return buffer(s, line, w, out);
-    }
-    if name == b"save".as_slice() {
-        return save(s, w, times, tags, saved_times, saved_tags, out);
-    }
-    if name == b"restore".as_slice() {
-        return restore(s, w, times, tags, saved_times, saved_tags, out);
-    }
-    if name == b"batch".as_slice() {
-        return begin_batch(s, line, w, rows, times, tags, out);
-    }
-    if name == b"segment".as_slice() {
-        segment::call(line, w, out);
-        return s;
-    }
-    if name == b"feed".as_slice() {
-        feed_words::call(line, w, out);
-        return s;
-    }
-    let slot = slot_calls::on_slot(slots::used(s), line, w, times, tags, out);
-    slots::with_used(s, slot)
-}
-
-// ---- the lines
-
-// What is kept from line to line: the session, and the reader of lumps, which needs nothing of it.
-#[derive(Clone, Copy)]
-pub struct Standing {
-    pub session: Session,
-    pub reader: LumpReader,
-}
-
-fn fresh() -> Standing {
-    let session = slots::fresh();
-    let reader = lumps::fresh_reader();
-    Standing { session, reader }
-}
-
-// A line for the reader of lumps, or for the session.
-fn answer<W: Write>(
-    standing: Standing,
-    line: &[u8],
-    w: Words,
-    rows: &[[i64; 6]],
-    buffer: &mut Buffer,
-    times: &mut Times,
-    tags: &mut Tags,
-    saved_times: &mut Times,
-    saved_tags: &mut Tags,
-    out: &mut Output<W>,
-) -> Standing {
-    let mut next = standing;
-    let name = words::word(line, w, 0);
-    if name == b"lump".as_slice() {
-        next.reader = lump::call(standing.reader, line, w, buffer, out);
-        return next;
-    }
-    if name == b"lump-fresh".as_slice() {
-        next.reader = lump::fresh(standing.reader, w, out);
-        return next;
-    }
-    next.session = on_session(
-        standing.session,
-        line,
-        w,
-        rows,
-        times,
-        tags,
-        saved_times,
-        saved_tags,
-        out,
-    );
-    next
-}
-
-fn blank(line: &[u8]) -> bool {
-    if line.len() == 0 {
-        return true;
-    }
-    line[0] == COMMENT
-}
-
-// A line that belongs to a batch.
-fn on_frame<W: Write>(
-    s: Session,
-    line: &[u8],
-    cut: bool,
-    w: Words,
-    rows: &mut [[i64; 6]; 65],
-    times: &mut Times,
-    tags: &mut Tags,
-    out: &mut Output<W>,
-) -> Session
-    requires { 1 ≤ s.batch.left }
-{
-    let b = batches::with_frame(s.batch, line, cut, w, rows, out);
-    gathered(s, b, rows, times, tags, out)
-}
-
-// A line, which is cut off where it fills its room.
-fn on_line<W: Write>(
-    standing: Standing,
-    line: &[u8],
-    cut: bool,
-    rows: &mut [[i64; 6]; 65],
-    buffer: &mut Buffer,
-    times: &mut Times,
-    tags: &mut Tags,
-    saved_times: &mut Times,
-    saved_tags: &mut Tags,
-    out: &mut Output<W>,
-) -> Standing {
-    if blank(line) {
-        return standing;
-    }
-    let mut next = standing;
-    let s = standing.session;
-    let w = words::words_of(line);
-    if 0 < s.batch.left && words::word(line, w, 0) == b"frame".as_slice() {
-        next.session = on_frame(s, line, cut, w, rows, times, tags, out);
-        return next;
-    }
-    batches::cut_short(s.batch, out);
-    let mut t = s;
-    t.batch = slots::no_batch();
-    next.session = t;
-    if cut {
-        answers::unknown(out);
-        return next;
-    }
-    answer(
-        next,
-        line,
-        w,
-        rows,
-        buffer,
-        times,
-        tags,
-        saved_times,
-        saved_tags,
-        out,
-    )
-}
-
-// The lines one after another, each on the store of the slot then in use; what is kept of the first that was not read.
-fn run<W: Write>(
-    from: &mut impl Read,
-    chunk: &mut [u8; 4096],
-    line: &mut Line,
-    rows: &mut [[i64; 6]; 65],
-    buffer: &mut Buffer,
-    times: &mut Times,
-    tags: &mut Tags,
-    second_times: &mut Times,
-    second_tags: &mut Tags,
-    saved_times: &mut Times,
-    saved_tags: &mut Tags,
-    out: &mut Output<W>,
-) -> Text {
-    let mut standing = fresh();
-    let mut r = input::start();
-    let mut kept = unread::no_text();
-    let mut turns = u64::MAX;
-    while 0 < turns {
-        turns -= 1;
-        let number = unread::next_number(out);
-        r = input::next_line(r, from, chunk, line);
-        let said = input::text_of(words::part(line, 0, r.length), number == 1);
-        let cut = line.len() <= r.length;
-        if standing.session.second_used {
-            standing = on_line(
-                standing,
-                said,
-                cut,
-                rows,
-                buffer,
-                second_times,
-                second_tags,
-                saved_times,
-                saved_tags,
-                out,
-            );
-        } else {
-            standing = on_line(
-                standing,
-                said,
-                cut,
-                rows,
-                buffer,
-                times,
-                tags,
-                saved_times,
-                saved_tags,
-                out,
-            );
+fn create(
+    session: &mut Session,
+    alloc: Global,
+    words: Words<'_>,
+    out: &mut impl Write,
+) -> Result<(), Fault> {
+    let kinds = kinds(alloc, words)?;
+    match made::create(&kinds) {
+        Ok(slot) => {
+            session.used = Some(slot);
+            tell(out, Ok(Answer::Done), true)?;
         }
-        let s = standing.session;
-        kept = unread::kept(kept, s.batch, said, out);
-        if r.ended {
-            batches::cut_short(s.batch, out);
-            return kept;
-        }
+        Err(why) => tell(out, Err(why), true)?,
     }
-    kept
+    Ok(())
 }
 
-fn main(rt: HostRuntime) {
-    let mut from = rt.reader();
-    let mut chunk = [0u8; 4096];
-    let mut line = [0u8; input::ROOM];
-    let mut rows = [[0i64; 6]; 65]; // of a batch: one more than it may have, as more are refused like 65
-    let mut buffer = [0u8; lump::ROOM];
-    let mut times = [[0i64; 2]; PLACES];
-    let mut tags = [[0u32; 5]; PLACES];
-    let mut second_times = [[0i64; 2]; PLACES];
-    let mut second_tags = [[0u32; 5]; PLACES];
-    let mut saved_times = [[0i64; 2]; PLACES];
-    let mut saved_tags = [[0u32; 5]; PLACES];
-    let mut out = text::no_output(rt.stdout());
-    let kept = run(
-        &mut from,
-        &mut chunk,
-        &mut line,
-        &mut rows,
-        &mut buffer,
-        &mut times,
-        &mut tags,
-        &mut second_times,
-        &mut second_tags,
-        &mut saved_times,
-        &mut saved_tags,
-        &mut out,
-    );
+fn tell_state(session: &Session, words: Words<'_>, out: &mut impl Write) -> Result<(), Fault> {
+    words.end()?;
+    let slot = session.used.as_ref().ok_or(Unmade::NoBuffer)?;
+    tell(out, Ok(Answer::State(slot)), true)?;
+    Ok(())
+}
+
+fn on_buffer(
+    session: &mut Session,
+    alloc: Global,
+    name: &[u8],
+    words: Words<'_>,
+    out: &mut impl Write,
+) -> Result<(), Fault> {
+    let call = calls::call_of(name, words)?;
+    let slot = session.used.as_mut().ok_or(Unmade::NoBuffer)?;
+    on_slot::call(alloc, slot, call, out)?;
+    Ok(())
+}
+
+// ---- the run
+
+fn main(rt: HostRuntime) -> io::Result<()> {
+    let alloc = rt.alloc();
+    let mut lines = Lines::new(alloc, BufReader::new(alloc, rt.reader())?);
+    let mut out = Output::new(BufWriter::new(alloc, rt.stdout())?);
+    let mut replay = Replay::new(alloc);
+    for _ in 0..u64::MAX {
+        if !lines.advance()? {
+            break;
+        }
+        replay.on_line(lines.line(), &mut out)?;
+        out.flush()?; // an answer is written before the next line is read
+    }
+    replay.end(&mut out)?;
+    out.flush()?;
     let mut error = rt.stderr();
-    unread::tell(kept, &out, &mut error);
-    text::tell_failed(b"replay", &out, &mut error);
+    let _ = replay.unread.tell(&mut error); // where that fails, nothing more can be said
+    out.tell_failed("replay", &mut error);
+    Ok(())
 }

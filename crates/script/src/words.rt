@@ -1,102 +1,117 @@
-// A line of the script as words, and what single words stand for.
-use text::read::Small;
+// The words of a line, read from left to right, and what a line says that makes no call.
+ghost use Rattle.std.specs.Prelude.{◌≤◌, IfOk, IfSome};
 
-const SPACE: u8 = 32;
+use text::read::{NoNumber, as_double, as_small, as_whole};
+use thiserror::Error;
 
-const MOST: usize = 11; // as many words as a `lump` has
-
-// Where each of a line's first eleven words starts and ends, and how many words there are: twelve stands for more than eleven.
-#[derive(Clone, Copy)]
-pub struct Words {
-    pub count: usize,
-    pub starts: [usize; MOST],
-    pub ends: [usize; MOST],
+// Why a line makes no call: it cannot be read; it asks for what cannot be held; it needs a buffer and there is none. So it is answered.
+#[derive(Clone, Copy, Debug, PartialEq, Eq, Error)]
+pub enum Unmade {
+    #[error("unknown")]
+    Unknown,
+    #[error("declined")]
+    Declined,
+    #[error("none")]
+    NoBuffer,
 }
 
-fn with_word(w: Words, start: usize, end: usize) -> Words {
-    let mut v = w;
-    let k = v.count;
-    if MOST <= k {
-        v.count = MOST + 1;
-        return v;
-    }
-    v.starts[k] = start;
-    v.ends[k] = end;
-    v.count = k + 1;
-    v
-}
-
-// Each space ends a word, and so does the end of the line.
-pub fn words_of(line: &[u8]) -> Words {
-    let mut w = Words {
-        count: 0,
-        starts: [0; MOST],
-        ends: [0; MOST],
-    };
-    let mut start = 0;
-    let mut i = 0;
-    while i < line.len() {
-        if line[i] == SPACE {
-            w = with_word(w, start, i);
-            start = i + 1;
+// A poke's number that its field has no room for is read all the same.
+impl From<NoNumber> for Unmade {
+    fn from(why: NoNumber) -> Unmade {
+        match why {
+            NoNumber::Above | NoNumber::Below => Unmade::Declined,
+            NoNumber::NotWhole => Unmade::Unknown,
         }
-        i += 1;
-    }
-    with_word(w, start, line.len())
-}
-
-// The bytes from start up to end, none where there are no such bytes.
-pub fn part(line: &[u8], start: usize, end: usize) -> &[u8] {
-    if line.len() < end {
-        return &line[..0];
-    }
-    if end < start {
-        return &line[..0];
-    }
-    &line[start..end]
-}
-
-// The word at place k, counted from 0; a place without a word has the empty one, which stands for nothing.
-pub fn word(line: &[u8], w: Words, k: usize) -> &[u8] {
-    if MOST <= k {
-        return part(line, 0, 0);
-    }
-    part(line, w.starts[k], w.ends[k])
-}
-
-pub fn begins(w: &[u8], name: &[u8]) -> bool {
-    part(w, 0, name.len()) == name
-}
-
-// How many places are lent.
-#[derive(Clone, Copy)]
-pub enum Room {
-    Is(usize),
-    Not,
-}
-
-// What the word `name=K` at place k says, or what holds where the line has no word there.
-pub fn lent_at(line: &[u8], w: Words, k: usize, name: &[u8], default: usize) -> Room {
-    if w.count <= k {
-        return Room::Is(default);
-    }
-    let v = word(line, w, k);
-    if !begins(v, name) {
-        return Room::Not;
-    }
-    match text::read::as_small(part(v, name.len(), v.len())) {
-        Small::Is(n) => Room::Is(n as usize),
-        _ => Room::Not,
     }
 }
 
-// The same of a line that has no word after that place, and every word before it.
-pub fn lent(line: &[u8], w: Words, k: usize, name: &[u8], default: usize) -> Room {
-    if w.count < k {
-        return Room::Not;
+// The words that are still to be read, parted by single spaces; none once the last is read.
+#[derive(Clone, Copy, Debug)]
+pub struct Words<'a> {
+    rest: Option<&'a [u8]>,
+}
+
+impl<'a> Words<'a> {
+    pub fn of(line: &'a [u8]) -> Self {
+        Words { rest: Some(line) }
     }
-    if 1 < w.count - k {
-        return Room::Not;
+
+    // All that is still to be read, with its spaces.
+    pub fn rest(self) -> Option<&'a [u8]> {
+        self.rest
     }
-    lent_at(line, w, k, name, default)
+
+    fn next(&mut self) -> Option<&'a [u8]> {
+        let mut parts = self.rest?.splitn(2, |b| *b == b' ');
+        let word = parts.next();
+        self.rest = parts.next();
+        word
+    }
+
+    pub fn word(&mut self) -> Result<&'a [u8], Unmade> {
+        self.next().ok_or(Unmade::Unknown)
+    }
+
+    // No word is left.
+    pub fn end(self) -> Result<(), Unmade> {
+        match self.rest {
+            Some(_) => Err(Unmade::Unknown),
+            None => Ok(()),
+        }
+    }
+
+    // The last word.
+    pub fn last(mut self) -> Result<&'a [u8], Unmade> {
+        let word = self.word()?;
+        self.end()?;
+        Ok(word)
+    }
+
+    pub fn whole(&mut self) -> Result<i64, Unmade> {
+        as_whole(self.word()?).or(Err(Unmade::Unknown))
+    }
+
+    pub fn small(&mut self) -> Result<u32, Unmade> {
+        as_small(self.word()?).or(Err(Unmade::Unknown))
+    }
+
+    pub fn natural(&mut self) -> Result<u32, Unmade> {
+        natural(self.word()?)
+    }
+
+    pub fn flag(&mut self) -> Result<bool, Unmade> {
+        match self.small()? {
+            0 => Ok(false),
+            1 => Ok(true),
+            _ => Err(Unmade::Unknown),
+        }
+    }
+
+    pub fn double(&mut self) -> Result<f64, Unmade> {
+        as_double(self.word()?).ok_or(Unmade::Unknown)
+    }
+
+    // How much is lent, at most `most`, where the next word is `name=K`; the name is given with the sign after it.
+    pub fn lent(&mut self, name: &[u8], most: usize) -> Result<Option<usize>, Unmade>
+        ensures { IfOk result (λ lent. IfSome lent (λ n. n ≤ most)) }
+    {
+        let mut after = *self;
+        let Some(number) = after.next().and_then(|word| word.strip_prefix(name)) else {
+            return Ok(None);
+        };
+        *self = after;
+        match as_small(number) {
+            Ok(n) if n as usize <= most => Ok(Some(n as usize)),
+            _ => Err(Unmade::Unknown),
+        }
+    }
+}
+
+// Any number from 0 up. One beyond 32 bits is as good as the last of them: no buffer has such a track, and no script so many frames.
+pub fn natural(word: &[u8]) -> Result<u32, Unmade> {
+    match as_small(word) {
+        Ok(n) => Ok(n),
+        Err(NoNumber::Above) => Ok(u32::MAX),
+        Err(_) => Err(Unmade::Unknown),
+    }
 }

@@ -2,18 +2,17 @@
 use mathlib.Core.Path.{◌≡◌, refl, sym, ap, ◌∙◌, subst}
 use mathlib.Core.Bool.{Bool, true, false, not, cond, ◌&&◌, ◌||◌}
 use Prim.Native.Nat.{ℕ, zero, suc, ◌+◌, ◌-◌, ◌*◌, ◌/◌, ◌%◌, ◌^◌, ◌≤◌, ◌<◌}
-use native.Mathlib.Nat.{le_trans, le_of_eq, lt_of_lt_of_le, not-le_of_lt, lt_of_not-le, mul-one, mul_assoc, mul_right_comm, mul-pos, mul-le-mul_right, mul-le-mul_left, le_of_mul-le-mul_right, mul-lt-mul_of_pos_right, mod-lt}
+use native.Mathlib.Nat.{le_trans, le_of_eq, lt_of_lt_of_le, not-le_of_lt, lt_of_not-le, mul-one, mul_assoc, mul_right_comm, mul-le-mul_right, mul-le-mul_left, le_of_mul-le-mul_right, mul-lt-mul_of_pos_right, mod-lt}
 use native.Mathlib.Omega.{arith}
 use lib.Dec.{T, leb, ltb, eqb, lit<, lit≤}
 use lib.Pow.{pow-add, pow_pos, pow_mono}
-use lib.IntN.{pos}
-use lib.Ieee.{Float, nan, inf, fin, binary64, up, down, odd, is_nan, fits, lt, le, eq, ne, of_fields, of_bits, to_bits}
+use lib.IntN.{ℤ, pos}
+use lib.Ieee.{Float, nan, inf, fin, binary64, up, down, odd, is_nan, fits, lt, le, eq, of_fields, of_bits, to_bits}
 use lib.Ieee.Fits.{down_pos}
 use lib.Ieee.Bits.{of_bits-to_bits}
 use lib.Ieee.Exact.{HasValue, odd_sign}
-use lib.Ieee.Compare.{differs_from_itself}
-use borrow.Author.Tests.{ltb-true, ltb-false, leb-true, eqb-true, lt-ltb, le-leb, lt-leb, eq-eqb}
-use Rattle.laws.proofs.BoolLaws.{clash, split, and_left, and_both, or_cases, or_left, or_right, same_test}
+use borrow.Author.Tests.{ltb-true, ltb-false, leb-true, eqb-true, lt-ltb, le-leb, eq-eqb}
+use Rattle.laws.proofs.BoolLaws.{clash, both_ways, split, and_left, and_both, or_cases, or_left, or_right, same_test}
 use Rattle.seconds.specs.Seconds.{signed, nearest_of, is_convertible, micros_of, is_plus_infinity, same_double}
 use Rattle.seconds.proofs.SecondsLaws.{double-same, same_double_lem, nearest-down, nearest-same}
 
@@ -23,13 +22,6 @@ use Rattle.seconds.proofs.SecondsLaws.{double-same, same_double_lem, nearest-dow
 abbrev pub million : Bool → Float
 million s = fin s 15625 (pos 6)
 
-pub range-low : (x : Float) → lt x (million true) ≡ true → is_convertible x ≡ false
-unfolding lt is_convertible
-range-low nan h = refl
-range-low (inf s) h = refl
-range-low (fin true m e) h = lt-leb (m * up e) (1000000 * down e) (omega (arith, ltb-true (1000000 * down e) (m * up e * 1) h))
-range-low (fin false m e) h = clash (sym h)
-
 -- a ≤ b, as a double's test has it
 le_test : (a b : ℕ) → (ltb a b || (eqb a b && true)) ≡ leb a b
 le_test a b =
@@ -37,14 +29,33 @@ le_test a b =
     (λ e. or_cases (ltb a b) (eqb a b && true) e (λ l. le-leb a b (omega (arith, ltb-true a b l))) (λ q. le-leb a b (le_of_eq (eqb-true a b (and_left _ _ q)))))
     (λ e. split (ltb a b) (or_left (ltb a b) (eqb a b && true)) (λ n. or_right (ltb a b) _ (and_both (eq-eqb a b (omega (arith, leb-true a b e, ltb-false a b n))) refl)))
 
-pub range-high : (x : Float) → lt x (million true) ≡ false → le x (million false) ≡ is_convertible x
+eqb-turned : (a b : ℕ) → eqb b a ≡ eqb a b
+eqb-turned a b = same_test (eqb b a) (eqb a b) (λ e. eq-eqb a b (sym (eqb-true b a e))) (λ e. eq-eqb b a (sym (eqb-true a b e)))
+
+-- the lower limit, for a double that is negative
+le-low : (m : ℕ) (e : ℤ) → le (million true) (fin true m e) ≡ is_convertible (fin true m e)
+unfolding lt le eq is_convertible
+le-low m e =
+    ap (λ (q : Bool). ltb (m * up e * 1) (1000000 * down e) || (q && true)) (eqb-turned (m * up e * 1) (1000000 * down e))
+    ∙ le_test (m * up e * 1) (1000000 * down e)
+    ∙ ap (λ (z : ℕ). leb z (1000000 * down e)) (mul-one (m * up e))
+
+pub range-low : (x : Float) → le (million true) x ≡ false → le (million true) x ≡ is_convertible x
+unfolding lt le eq is_convertible
+range-low nan h = refl
+range-low (inf true) h = refl
+range-low (inf false) h = clash h
+range-low (fin true m e) h = le-low m e
+range-low (fin false m e) h = both_ways (or_left _ _ (lt-ltb 0 (1000000 * down e + m * up e * 1) (omega (arith, down_pos e)))) h
+
+pub range-high : (x : Float) → le (million true) x ≡ true → le x (million false) ≡ is_convertible x
 unfolding lt le eq is_convertible
 range-high nan h = refl
-range-high (inf true) h = clash h
+range-high (inf true) h = clash (sym h)
 range-high (inf false) h = refl
 range-high (fin true m e) h =
     or_left _ _ (lt-ltb 0 (m * up e * 1 + 1000000 * down e) (omega (arith, down_pos e)))
-    ∙ sym (le-leb (m * up e) (1000000 * down e) (omega (arith, ltb-false (1000000 * down e) (m * up e * 1) h)))
+    ∙ sym h ∙ le-low m e
 range-high (fin false m e) h = le_test (m * up e * 1) (1000000 * down e) ∙ ap (λ (z : ℕ). leb z (1000000 * down e)) (mul-one (m * up e))
 
 pub infinity-test : (x : Float) → eq x (inf false) ≡ is_plus_infinity x
@@ -130,22 +141,22 @@ exponent-limit s (suc k) t w =
     let beyond : 1042 ≤ k → ⊥ = λ h. not-le_of_lt (lit< tt) (le_trans (mul-le-mul_left (2 ^ 52) (pow_mono h)) (le_trans (mul-le-mul_right (2 ^ k) least) within)) in
     lt_of_not-le beyond
 
-scale : (q P Q N : ℕ) → P * Q ≡ N → q * P * 1000000 * (Q * 16) ≡ q * 15625 * (N * 1024)
+scale : (q P Q N : ℕ) → P * Q ≡ N → q * P * 1000000 * Q ≡ q * 15625 * (N * 64)
 scale q P Q N e =
     let whole : q * P * Q ≡ q * N = mul_assoc q P Q ∙ ap (λ (z : ℕ). q * z) e in
-    omega (arith, whole, mul_assoc (q * P * 1000000) Q 16, mul_right_comm (q * P) 1000000 Q, mul_assoc (q * 15625) N 1024, mul_right_comm q 15625 N)
+    omega (arith, whole, mul_right_comm (q * P) 1000000 Q, mul_assoc (q * 15625) N 64, mul_right_comm q 15625 N)
 
 large-fields : (s : Bool) (x t : ℕ) → 1002 ≤ x → is_convertible (of_fields binary64 s x t) ≡ true
-    → micros_of (of_fields binary64 s x t) ≡ signed s (nearest_of s ((2 ^ 52 + t) * 15625) (2 ^ (1065 - x) * 16))
+    → micros_of (of_fields binary64 s x t) ≡ signed s (nearest_of s ((2 ^ 52 + t) * 15625) (2 ^ (1069 - x)))
 large-fields s zero t h w = absurd (omega arith)
 large-fields s (suc k) t h w =
     let q : ℕ = 2 ^ 52 + t in
-    let j : ℕ = 1065 - suc k in
+    let j : ℕ = 1069 - suc k in
     let most : suc k ≤ 1042 = exponent-limit s (suc k) t w in
-    let n : k + j ≡ 1064 = omega arith in
-    let e : 2 ^ k * 2 ^ j ≡ 2 ^ 1064 = sym (pow-add 2 k j) ∙ ap (λ (z : ℕ). 2 ^ z) n in
+    let n : k + j ≡ 1068 = omega arith in
+    let e : 2 ^ k * 2 ^ j ≡ 2 ^ 1068 = sym (pow-add 2 k j) ∙ ap (λ (z : ℕ). 2 ^ z) n in
     value-micros (of_fields binary64 s (suc k) t) s (q * 2 ^ k) (2 ^ 1074) (pow_pos 1074) (fields_value s (suc k) t w)
-    ∙ ap (signed s) (nearest-same s (q * 2 ^ k * 1000000) (2 ^ 1074) (q * 15625) (2 ^ j * 16) (pow_pos 1074) (mul-pos (pow_pos j) (lit< tt)) (scale q (2 ^ k) (2 ^ j) (2 ^ 1064) e))
+    ∙ ap (signed s) (nearest-same s (q * 2 ^ k * 1000000) (2 ^ 1074) (q * 15625) (2 ^ j) (pow_pos 1074) (pow_pos j) (scale q (2 ^ k) (2 ^ j) (2 ^ 1068) e))
 
 -- ---- the same of a double, by its bits
 
@@ -172,20 +183,10 @@ module _ (x : Float) (F : T (fits binary64 x)) (w : is_convertible x ≡ true) w
   pub small-double : exponent_of x < 1002 → micros_of x ≡ pos 0
   small-double h = ap micros_of (sym by-fields) ∙ small-fields _ _ _ h (mod-lt (to_bits binary64 x) (lit< tt)) there
 
-  pub large-double : 1002 ≤ exponent_of x → micros_of x ≡ signed (sign_of x) (nearest_of (sign_of x) ((2 ^ 52 + digits_of x) * 15625) (2 ^ (1065 - exponent_of x) * 16))
+  pub large-double : 1002 ≤ exponent_of x → micros_of x ≡ signed (sign_of x) (nearest_of (sign_of x) ((2 ^ 52 + digits_of x) * 15625) (2 ^ (1069 - exponent_of x)))
   large-double h = ap micros_of (sym by-fields) ∙ large-fields _ _ _ h there
 
 -- ---- sameness
-
--- only a NaN differs from itself, and there is one
-pub one-nan : (x y : Float) → ne x x ≡ true → ne y y ≡ true → x ≡ y
-one-nan x y h k = differs_from_itself x (subst T (sym h) tt) ∙ sym (differs_from_itself y (subst T (sym k) tt))
-
-pub not-nan : (x : Float) → ne x x ≡ false → T (not (is_nan x))
-unfolding ne is_nan
-not-nan nan h = clash h
-not-nan (inf s) h = tt
-not-nan (fin s m e) h = tt
 
 -- a test that passes exactly for equal doubles
 pub same_by : (a b : Float) (t : Bool) → (t ≡ true → a ≡ b) → (a ≡ b → t ≡ true) → t ≡ same_double a b

@@ -1,14 +1,11 @@
 -- Document 01, "Times and numbers": a double in seconds as whole microseconds, and back; halves as document 02, No. 7, has them.
 -- A finite double is the exact fraction m * up e / down e of its bits, negative where s is true.
 use Prim.Native.Nat.{ℕ, suc, ◌+◌, ◌*◌, ◌/◌, ◌%◌, compare, Ordering}
-use Rattle.std.specs.Prelude.{Bool, true, false, cond, ◌&&◌, ◌||◌, not, leb, eqb, ℤ, pos, negsuc, neg_ℤ, Float}
+use Rattle.std.specs.Prelude.{Bool, true, false, cond, ◌&&◌, ◌||◌, not, leb, eqb, ℤ, pos, negsuc, neg_ℤ, Float, Option, Some, None, Result, Ok, Err}
 use Rattle.std.specs.Bool.{beq}
 use Rattle.std.specs.Float.{nan, inf, fin, binary64}
 use Rattle.std.specs.Float.Ieee.{up, down, of_int, div}
-use Rattle.seconds.specs.declared.Micros.{Micros}
-use Rattle.seconds.specs.declared.Micros.TheVariants.{At, Refused}
-use Rattle.seconds.specs.declared.EndMicros.{EndMicros}
-use Rattle.seconds.specs.declared.EndMicros.TheVariants as End
+use Rattle.seconds.specs.declared.OutOfRange.{OutOfRange}
 
 -- Document 02, No. 7, the tie rule alone: half a microsecond goes towards plus infinity. So a magnitude half way between q and q + 1
 -- becomes q where the number is negative, and else q + 1.
@@ -43,8 +40,8 @@ micros_of (inf s) = pos 0
 micros_of (fin s m e) = signed s (nearest_of s (m * up e * 1000000) (down e))
 
 -- the answer to a time in seconds: its microseconds, or a refusal
-abbrev pub micros_answer : Float → Micros
-micros_answer x = cond (is_convertible x) (At (micros_of x)) Refused
+abbrev pub micros_answer : Float → Result ℤ OutOfRange
+micros_answer x = cond (is_convertible x) (Ok (micros_of x)) (Err (record {}))
 
 -- the whole number z, exact as a double, divided once by 1,000,000 (which is 15625 * 2 ^ 6)
 unfoldable pub seconds_of : ℤ → Float
@@ -67,13 +64,13 @@ pub data Bound : Type 0 where
 unfoldable pub bound_of : Float → Bound
 bound_of x = cond (is_plus_infinity x) unbounded (at (micros_of x))
 
--- the answer to an end in seconds: its place, or a refusal
-abbrev pub end_place : Bound → EndMicros
-end_place unbounded = End.Unbounded
-end_place (at z) = End.At z
+-- the answer to an end in seconds: its place, none where it is unbounded, or a refusal
+abbrev pub end_place : Bound → Option ℤ
+end_place unbounded = None
+end_place (at z) = Some z
 
-abbrev pub end_answer : Float → EndMicros
-end_answer x = cond (is_convertible_end x) (end_place (bound_of x)) End.Refused
+abbrev pub end_answer : Float → Result (Option ℤ) OutOfRange
+end_answer x = cond (is_convertible_end x) (Ok (end_place (bound_of x))) (Err (record {}))
 
 -- plus zero, as a double
 abbrev pub zero_seconds : Float

@@ -3,63 +3,42 @@
 
 ghost use Rattle.std.specs.Prelude.{◌≡◌, not, ◌*◌, ◌^◌, ◌≤◌, ◌<◌, nat_abs};
 ghost use Rattle.std.specs.Float.{binary64};
-ghost use Rattle.std.specs.Float.Ieee.{of_bits, to_bits, nan_bits};
-ghost use Rattle.seconds.specs.Seconds.{tie_of, nearest_of, signed, is_convertible, is_plus_infinity, micros_answer, end_answer, seconds_of, same_double};
+ghost use Rattle.std.specs.Float.Ieee.{nan_bits};
+ghost use Rattle.seconds.specs.Seconds.{tie_of, nearest_of, signed, is_convertible, micros_answer, end_answer, seconds_of, same_double};
+
+use std::cmp::Ordering;
+use std::num::{f64_from_bits_with_nan, f64_to_bits_with_nan};
 
 const SIGN: u64 = 0x8000_0000_0000_0000; // 2^63, the sign's bit
 
 const HIDDEN: u64 = 0x10_0000_0000_0000; // 2^52, the leading digit, which is not written
 
-const INFINITY: u64 = 0x7ff0_0000_0000_0000; // the bits of plus infinity
-
-const NAN: u64 = 0x7ff8_0000_0000_0000; // of the bits of a NaN, the ones that are written
-
-#[derive(Clone, Copy)]
-pub enum Micros {
-    At(i64),
-    Refused,
-}
-
-#[derive(Clone, Copy)]
-pub enum EndMicros {
-    Unbounded,
-    At(i64),
-    Refused,
-}
+/// Why a double is no time in seconds: it is a NaN, or too far from zero.
+#[derive(Clone, Copy, Debug, PartialEq, Eq)]
+pub struct OutOfRange;
 
 // The tie rule: a magnitude half way between whole and whole + 1 goes towards plus infinity, which is down below zero.
 fn tie(negative: bool, whole: u64) -> u64
     requires { whole < 2 ^ 63 }
     ensures { result ≡ tie_of negative whole }
 {
-    if negative {
-        return whole;
-    }
-    whole + 1
+    if negative { whole } else { whole + 1 }
 }
 
-// The whole number nearest to m * 15625 / 2^(j + 4). The product has up to 67 bits: its last four are kept apart.
+// The whole number nearest to m * 15625 / 2^j. The product has up to 67 bits.
 fn nearest(negative: bool, m: u64, j: u64) -> u64
-    requires { (m < 2 ^ 53) × (23 ≤ j) × (j < 64) }
-    ensures { result ≡ nearest_of negative (m * 15625) (2 ^ j * 16) }
+    requires { (m < 2 ^ 53) × (27 ≤ j) × (j < 68) }
+    ensures { result ≡ nearest_of negative (m * 15625) (2 ^ j) }
 {
-    let low = m % 16 * 15625;
-    let n = m / 16 * 15625 + low / 16;
-    let rest = low % 16;
-    let p = 1u64 << j;
-    let whole = n / p;
-    let part = n % p;
-    let half = p / 2;
-    if part < half {
-        return whole;
+    let product = m as u128 * 15625;
+    let unit = 1u128 << j;
+    let whole = (product / unit) as u64;
+    let rest = product % unit;
+    match (rest * 2).cmp(&unit) {
+        Ordering::Less => whole,
+        Ordering::Equal => tie(negative, whole),
+        Ordering::Greater => whole + 1,
     }
-    if half < part {
-        return whole + 1;
-    }
-    if 0 < rest {
-        return whole + 1;
-    }
-    tie(negative, whole)
 }
 
 // A magnitude with its sign.
@@ -68,63 +47,47 @@ fn with_sign(negative: bool, n: u64) -> i64
     ensures { result ≡ signed negative n }
 {
     let z = n as i64;
-    if negative {
-        return -z;
-    }
-    z
+    if negative { -z } else { z }
 }
 
-// A finite double from -1,000,000 to 1,000,000, both included. A NaN fails the last test.
+// A finite double from -1,000,000 to 1,000,000, both included. A NaN fails both tests.
 fn in_range(x: f64) -> bool
     ensures { result ≡ is_convertible x }
 {
-    if x < -1000000.0 {
-        return false;
-    }
-    x <= 1000000.0
+    -1000000.0 <= x && x <= 1000000.0
 }
 
-// The microsecond nearest to x seconds. A normal double is (HIDDEN + digits) * 2^(exponent - 1075), and 1000000 is 15625 * 2^6,
-// so it is (HIDDEN + digits) * 15625 / 2^(1069 - exponent) microseconds. Below 2^-21 seconds that rounds to none.
-pub fn micros_of(x: f64) -> Micros
+/// The microsecond nearest to x seconds.
+// A normal double is (HIDDEN + digits) * 2^(exponent - 1075), and 1000000 is 15625 * 2^6, so it is
+// (HIDDEN + digits) * 15625 / 2^(1069 - exponent) microseconds. Below 2^-21 seconds that rounds to none.
+pub fn micros_of(x: f64) -> Result<i64, OutOfRange>
     ensures { result ≡ micros_answer x }
 {
     if !in_range(x) {
-        return Micros::Refused;
+        return Err(OutOfRange);
     }
-    let bits = f64::to_bits(x);
+    let bits = x.to_bits();
     let exponent = bits % SIGN / HIDDEN;
     let digits = bits % HIDDEN;
     let negative = SIGN <= bits;
     if exponent < 1002 {
-        return Micros::At(0);
+        return Ok(0);
     }
-    let n = nearest(negative, HIDDEN + digits, 1065 - exponent);
-    Micros::At(with_sign(negative, n))
+    let n = nearest(negative, HIDDEN + digits, 1069 - exponent);
+    Ok(with_sign(negative, n))
 }
 
-// Plus infinity, by its bits.
-fn plus_infinity(x: f64) -> bool
-    ensures { result ≡ is_plus_infinity x }
-{
-    x == f64::from_bits(INFINITY)
-}
-
-// The end of a window or of a removal.
-pub fn end_micros(x: f64) -> EndMicros
+/// The end of a window or of a removal: `None` is unbounded, plus infinity.
+pub fn end_micros(x: f64) -> Result<Option<i64>, OutOfRange>
     ensures { result ≡ end_answer x }
 {
-    if plus_infinity(x) {
-        return EndMicros::Unbounded;
+    if x == f64::INFINITY {
+        return Ok(None);
     }
-    let m = micros_of(x);
-    match m {
-        Micros::At(z) => EndMicros::At(z),
-        Micros::Refused => EndMicros::Refused,
-    }
+    Ok(Some(micros_of(x)?))
 }
 
-// n microseconds as seconds: exact as a double, then divided once.
+/// n microseconds as seconds: exact as a double, then divided once.
 pub fn seconds_of(n: i64) -> f64
     requires { nat_abs n ≤ 2 ^ 53 }
     ensures { result ≡ seconds_of n }
@@ -132,46 +95,16 @@ pub fn seconds_of(n: i64) -> f64
     (n as f64) / 1000000.0
 }
 
-// The same double bit for bit: 0.0 and -0.0 differ, and a NaN is the same as a NaN.
+/// The same double bit for bit: 0.0 and -0.0 differ, and a NaN is the same as a NaN.
 pub fn same_double(a: f64, b: f64) -> bool
     ensures { result ≡ same_double a b }
 {
-    if a != a {
-        return b != b;
-    }
-    if b != b {
-        return false;
-    }
-    let p = f64::to_bits(a);
-    let q = f64::to_bits(b);
-    p == q
+    f64_to_bits_with_nan(a) == f64_to_bits_with_nan(b)
 }
 
-// ---- a double and its 64 bits
-
-// The bits are not those of a NaN.
+/// The bits are not those of a NaN.
 pub fn is_number(bits: u64) -> bool
     ensures { result ≡ not (nan_bits binary64 bits) }
 {
-    bits % SIGN <= INFINITY
-}
-
-// The double of these bits. Any NaN's bits give the one NaN.
-pub fn of_bits(bits: u64) -> f64
-    ensures { result ≡ of_bits binary64 bits }
-{
-    if !is_number(bits) {
-        return 0.0 / 0.0;
-    }
-    f64::from_bits(bits)
-}
-
-// The bits of a double. Which bits a NaN has is the machine's choice, so one pattern stands for them all.
-pub fn bits_of(x: f64) -> u64
-    ensures { result ≡ to_bits binary64 x }
-{
-    if x != x {
-        return NAN;
-    }
-    f64::to_bits(x)
+    !f64_from_bits_with_nan(bits).is_nan()
 }

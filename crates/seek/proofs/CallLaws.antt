@@ -1,4 +1,5 @@
 -- What a seek answers, by the tests in their order; and that the frames to decode are never more than the track has.
+use Rattle.std.specs.Prelude.{Err}
 use mathlib.Core.Path.{◌≡◌, refl, sym, ap, ◌∙◌}
 use mathlib.Core.Bool.{Bool, true, false, not, ◌&&◌}
 use mathlib.Core.List.{List, [], ◌∷◌}
@@ -11,14 +12,15 @@ use Rattle.laws.proofs.BoolLaws.{by-test, split}
 use Rattle.buffer_state.specs.declared.Frame.{Frame}
 use Rattle.buffer_state.specs.declared.Head.{Head}
 use Rattle.buffer_state.specs.declared.Refusal.TheVariants.{IllFormed, NoTrack, NoStart}
-use Rattle.buffer_state.specs.Answers.{sought, seek_result}
+use Rattle.buffer_state.specs.Answers.{seek_result}
 use Rattle.buffer_state.specs.Buffer.{Buffer, has_track}
 use Rattle.buffer_state.specs.Layout.{zero_frame, buffer_of}
 use Rattle.buffer_state.specs.Lent.{frames_of, state_at, well_formed_at}
 use Rattle.buffer_state.specs.Limits.{places}
-use Rattle.buffer_state.specs.Refusals.{CallResult, refused}
+use Rattle.buffer_state.specs.Refusals.{CallResult}
 use Rattle.buffer_state.specs.Run.{stored_on}
-use Rattle.buffer_state.specs.Seek.{Target, none, picked, Start, target_of, from_flagged, to_decode, start_by, start_to, seek}
+use Rattle.buffer_state.specs.declared.Start.{Start}
+use Rattle.buffer_state.specs.Seek.{Target, none, picked, target_of, from_flagged, to_decode, start_by, start_to, seek}
 use Rattle.buffer_state.specs.WellFormed.{good_frame}
 use Rattle.buffer_laws.proofs.GoodLaws.{IsGood, good-facts, frame-facts}
 use Rattle.buffer_laws.proofs.LentLaws.{lent-plain, lent-good, lent_back, ill-formed-refused, on-well_formed}
@@ -30,23 +32,23 @@ use Rattle.seek.proofs.StoreLaws.{up_to-at}
 
 -- ---- the frames to decode are at most those of the track
 
-by-within : (most : ℕ) (f : Frame) (fs : List Frame) → length fs ≤ most → Within most (sought (start_by f fs))
+by-within : (most : ℕ) (f : Frame) (fs : List Frame) → length fs ≤ most → Within most (start_by f fs)
 by-within most f [] h = tt
 by-within most f (g ∷ gs) h = h
 
-to-within : (track : ℕ) (t : ℤ) (b : Buffer) (r : Target) → target_of track t b.frames ≡ r → Within (stored_on track b) (sought (start_to r b.frames))
+to-within : (track : ℕ) (t : ℤ) (b : Buffer) (r : Target) → target_of track t b.frames ≡ r → Within (stored_on track b) (start_to r b.frames)
 unfolding stored_on
 to-within track t b none e = tt
 to-within track t b (picked f) e = by-within (stored_on track b) f (to_decode f b.frames) (count-bounded track t f b.frames e)
 
-seek-few : (track : ℕ) (t : ℤ) (b : Buffer) → Within (stored_on track b) (sought (seek track t b))
+seek-few : (track : ℕ) (t : ℤ) (b : Buffer) → Within (stored_on track b) (seek track t b)
 unfolding seek
 seek-few track t b =
-    by-test (λ (r : CallResult Start). Within (stored_on track b) (sought r)) (not (has_track b track)) (λ _. tt)
+    by-test (Within (stored_on track b)) (not (has_track b track)) (λ _. tt)
     (λ _. to-within track t b (target_of track t b.frames) refl)
 
 module _ (track : ℕ) (t : ℤ) (h : Head) (ts : List (List ℤ)) (gs : List (List ℕ)) where
-  pub seek-ill-formed : well_formed_at h ts gs ≡ false → seek_result track t h ts gs ≡ refused IllFormed
+  pub seek-ill-formed : well_formed_at h ts gs ≡ false → seek_result track t h ts gs ≡ Err IllFormed
   unfolding seek_result
   seek-ill-formed e = ill-formed-refused (seek track t) h ts gs e
 
@@ -54,7 +56,7 @@ module _ (track : ℕ) (t : ℤ) (h : Head) (ts : List (List ℤ)) (gs : List (L
   unfolding seek_result
   seek-held w = on-well_formed (seek track t) h ts gs w
 
-  pub seek-within : Within (stored_on track (buffer_of (state_at h ts gs))) (sought (seek_result track t h ts gs))
+  pub seek-within : Within (stored_on track (buffer_of (state_at h ts gs))) (seek_result track t h ts gs)
   seek-within =
       split (well_formed_at h ts gs)
       (λ w. rw (seek-held w) (seek-few track t (buffer_of (state_at h ts gs))))
@@ -89,7 +91,7 @@ module _ (track : ℕ) (t : ℤ) (h : Head) (ts : List (List ℤ)) (gs : List (L
       has_track_lem : has_track (buffer_of (state_at h ts gs)) track ≡ known
       has_track_lem = rw (← count) (sym is)
 
-      pub seek-unknown : known ≡ false → seek_result track t h ts gs ≡ refused NoTrack
+      pub seek-unknown : known ≡ false → seek_result track t h ts gs ≡ Err NoTrack
       unfolding seek
       seek-unknown k = seek-held w ∙ rw (has_track_lem ∙ k)
 
@@ -98,7 +100,7 @@ module _ (track : ℕ) (t : ℤ) (h : Head) (ts : List (List ℤ)) (gs : List (L
         unfolding seek
         seek-known = seek-held w ∙ rw (has_track_lem ∙ k)
 
-        pub seek-uncovered : target_of track t (take h.nframes (frames_of ts gs)) ≡ none → seek_result track t h ts gs ≡ refused NoStart
+        pub seek-uncovered : target_of track t (take h.nframes (frames_of ts gs)) ≡ none → seek_result track t h ts gs ≡ Err NoStart
         seek-uncovered e = seek-known ∙ ap (λ (r : Target). start_to r (take h.nframes (frames_of ts gs))) e
 
         module _ (at : ℕ) (inside : at < h.nframes) where

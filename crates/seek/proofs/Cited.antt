@@ -1,6 +1,7 @@
 -- What a reader can cite of a seek: what an answer says, when there is a target, and when there is none to decode from. Of the frames to
 -- decode, buffer_laws' DecodeLaws say more: they lead to the target, the first alone is flagged, the last is the target, and they are all
 -- that lead to it from the first on, each once.
+use Rattle.std.specs.Prelude.{Ok, Err}
 use mathlib.Core.Path.{◌≡◌, refl, sym, ap, ◌∙◌}
 use mathlib.Core.Bool.{Bool, true, false, cond, not, ◌&&◌, ◌||◌}
 use mathlib.Core.List.{List, [], ◌∷◌}
@@ -15,8 +16,9 @@ use Rattle.buffer_state.specs.declared.Refusal.{Refusal}
 use Rattle.buffer_state.specs.declared.Refusal.TheVariants.{NoStart}
 use Rattle.buffer_state.specs.Buffer.{Buffer, has_track}
 use Rattle.buffer_state.specs.Ranges.{covers, in_ranges, ranges_of}
-use Rattle.buffer_state.specs.Refusals.{CallResult, refused, done}
-use Rattle.buffer_state.specs.Seek.{Target, none, picked, over, target_of, leads_to, up_to, or_else, from_flagged, to_decode, Start, start_by, start_to, seek}
+use Rattle.buffer_state.specs.Refusals.{CallResult}
+use Rattle.buffer_state.specs.declared.Start.{Start}
+use Rattle.buffer_state.specs.Seek.{Target, none, picked, over, target_of, leads_to, up_to, or_else, from_flagged, to_decode, start_by, start_to, seek}
 use Rattle.buffer_state.specs.WellFormed.{all_of}
 use Rattle.buffer_laws.proofs.RangeLaws.{ranges-cover}
 use Rattle.buffer_laws.proofs.SeekLaws.{IsPicked, Covering, held-has-target, target-covers, target-greatest}
@@ -36,22 +38,18 @@ pub record Answered (b : Buffer) (track : ℕ) (t : ℤ) (s : Start) : Type 0 wh
   pub flagged : s.flagged ≡ first.number
   pub count : s.count ≡ length (to_decode target b.frames)
 
-refused-not-done : {A : Type 0} {why : Refusal} {s : Start} → refused why ≡ done s → A
+refused-not-done : {A : Type 0} {why : Refusal} {s : Start} → Err why ≡ Ok s → A
 refused-not-done e = clash (sym (ap is_done e))
   where
     is_done : CallResult Start → Bool
-    is_done (refused why) = false
-    is_done (done s) = true
+    is_done (Err why) = false
+    is_done (Ok s) = true
 
-done-same : {r s : Start} → done r ≡ done s → r ≡ s
-done-same {r} e = ap (started r) e
-  where
-    started : Start → CallResult Start → Start
-    started z (refused why) = z
-    started z (done s) = s
+done-same : {r s : Start} → ◌≡◌ {A = CallResult Start} (Ok r) (Ok s) → r ≡ s
+done-same e = cc
 
 by-decoded : (b : Buffer) (track : ℕ) (t : ℤ) (s : Start) (f : Frame) → target_of track t b.frames ≡ picked f → (fs : List Frame) → to_decode f b.frames ≡ fs
-    → start_by f fs ≡ done s → Answered b track t s
+    → start_by f fs ≡ Ok s → Answered b track t s
 by-decoded b track t s f e [] d k = refused-not-done k
 by-decoded b track t s f e (g ∷ gs) d k =
     let same = done-same k in
@@ -67,11 +65,11 @@ by-decoded b track t s f e (g ∷ gs) d k =
       count = sym (ap (λ (x : Start). x.count) same) ∙ sym (ap length d);
     }
 
-by-target : (b : Buffer) (track : ℕ) (t : ℤ) (s : Start) (r : Target) → target_of track t b.frames ≡ r → start_to r b.frames ≡ done s → Answered b track t s
+by-target : (b : Buffer) (track : ℕ) (t : ℤ) (s : Start) (r : Target) → target_of track t b.frames ≡ r → start_to r b.frames ≡ Ok s → Answered b track t s
 by-target b track t s none e k = refused-not-done k
 by-target b track t s (picked f) e k = by-decoded b track t s f e (to_decode f b.frames) refl k
 
-pub answered : (b : Buffer) (track : ℕ) (t : ℤ) (s : Start) → seek track t b ≡ done s → Answered b track t s
+pub answered : (b : Buffer) (track : ℕ) (t : ℤ) (s : Start) → seek track t b ≡ Ok s → Answered b track t s
 unfolding seek
 answered b track t s =
     split (has_track b track)
@@ -111,11 +109,11 @@ none-decoded f (g ∷ gs) =
     (λ e. rw e (none-decoded f gs))
 
 -- without frames to decode, and only then, there is no start
-no_start : (f : Frame) (fs : List Frame) → (start_by f fs ≡ refused NoStart) ↔ (empty fs ≡ true)
+no_start : (f : Frame) (fs : List Frame) → (start_by f fs ≡ Err NoStart) ↔ (empty fs ≡ true)
 no_start f [] = (λ _. refl, λ _. refl)
 no_start f (g ∷ gs) = (λ e. refused-not-done (sym e), λ e. clash (sym e))
 
-startless-refused : (fs : List Frame) (r : Target) → (start_to r fs ≡ refused NoStart) ↔ (startless r fs ≡ true)
+startless-refused : (fs : List Frame) (r : Target) → (start_to r fs ≡ Err NoStart) ↔ (startless r fs ≡ true)
 unfolding to_decode
 startless-refused fs none = (λ _. refl, λ _. refl)
 startless-refused fs (picked f) =
@@ -124,7 +122,7 @@ startless-refused fs (picked f) =
 
 -- A seek on a track that is there is refused 15 exactly if no frame covers the instant or no such flagged frame exists.
 pub refused-exactly : (b : Buffer) (track : ℕ) (t : ℤ) → has_track b track ≡ true
-    → (seek track t b ≡ refused NoStart) ↔ (startless (target_of track t b.frames) b.frames ≡ true)
+    → (seek track t b ≡ Err NoStart) ↔ (startless (target_of track t b.frames) b.frames ≡ true)
 unfolding seek
 refused-exactly b track t has =
     let k = startless-refused b.frames (target_of track t b.frames) in

@@ -1,20 +1,23 @@
 -- The target of the frames from a place on, from the last place back to the first.
 use mathlib.Core.Path.{◌≡◌, refl, ap, ◌∙◌}
-use mathlib.Core.Bool.{Bool, true, false, ◌&&◌}
+use mathlib.Core.Bool.{Bool, true, false, cond, ◌&&◌}
 use mathlib.Core.List.{List, ◌∷◌}
 use Prim.Native.Nat.{ℕ, ◌+◌, ◌-◌, ◌≤◌, ◌<◌}
 use native.Mathlib.Omega.{arith}
-use lib.Dec.{eqb}
+use lib.Dec.{ltb, eqb}
 use lib.IntN.{ℤ}
 use lib.ListN.{length, take, drop, get_or}
 use lib.Seq.{get_or-take}
+use lib.Signed.{lt_z}
+use Rattle.std.specs.declared.cmp.Ordering.TheVariants.{Less, Equal, Greater}
+use Rattle.std.specs.Ordering.{nat_cmp, int_cmp, ordering_then, is_lt}
 use borrow.Author.Tests.{eq-eqb, ne_eqb}
 use Rattle.laws.proofs.ListLaws.{first_next, first-end}
 use Rattle.buffer_state.specs.declared.Frame.{Frame}
 use Rattle.buffer_state.specs.Layout.{zero_frame}
 use Rattle.buffer_state.specs.Limits.{result_time}
 use Rattle.buffer_state.specs.Ranges.{covers}
-use Rattle.buffer_state.specs.Seek.{Target, none, picked, pick, target_of}
+use Rattle.buffer_state.specs.Seek.{Target, none, picked, over, pick, target_of}
 use Rattle.buffer_state.specs.WellFormed.{all_of}
 use Rattle.buffer_laws.proofs.TestLaws.{all_get_d}
 use Rattle.seek.specs.Places.{is_timed, placed_target}
@@ -28,13 +31,19 @@ zero-timed = refl
 pub timed-at : (fs : List Frame) (n i : ℕ) → i < n → all_of is_timed (take n fs) ≡ true → is_timed (get_or fs i zero_frame) ≡ true
 timed-at fs n i h e = rw (get_or-take n fs i zero_frame h) at (all_get_d is_timed (take n fs) i zero_frame zero-timed e)
 
--- ---- places
+-- ---- which of two
 
-pub placed-none : (fs : List Frame) (n place : ℕ) → place ≡ n → placed_target fs n place ≡ none
-placed-none fs n place e = rw (eq-eqb place n e)
-
-pub placed_at : (fs : List Frame) (n place : ℕ) → place < n → placed_target fs n place ≡ picked (get_or fs place zero_frame)
-placed_at fs n place h = rw (ne_eqb place n (λ e. omega (arith, h, e)))
+-- by the times, then the numbers, as the definition has it
+pub over_lem : (f g : Frame) → is_lt (ordering_then (int_cmp g.pts f.pts) (nat_cmp g.number f.number)) ≡ over f g
+unfolding over
+over_lem f g = tests (lt_z g.pts f.pts) (lt_z f.pts g.pts) (ltb g.number f.number) (eqb g.number f.number)
+  where
+    tests : (a b n e : Bool) → is_lt (ordering_then (cond a Less (cond b Greater Equal)) (cond n Less (cond e Equal Greater))) ≡ cond a true (cond b false n)
+    tests true b n e = refl
+    tests false true n e = refl
+    tests false false true e = refl
+    tests false false false true = refl
+    tests false false false false = refl
 
 -- ---- the walk
 

@@ -1,4 +1,5 @@
 -- The frames to decode, found from the target back: one frame more at the end of a list.
+use Rattle.std.specs.Prelude.{Ok, Err}
 use mathlib.Core.Path.{◌≡◌, refl, ap, ◌∙◌}
 use mathlib.Core.Bool.{Bool, true, false, cond}
 use mathlib.Core.List.{List, [], ◌∷◌, ◌++◌, append-nil}
@@ -8,8 +9,9 @@ use lib.ListN.{length, take, get_or, length-append}
 use lib.Seq.{take-suc}
 use Rattle.buffer_state.specs.declared.Frame.{Frame}
 use Rattle.buffer_state.specs.declared.Refusal.TheVariants.{NoStart}
-use Rattle.buffer_state.specs.Refusals.{CallResult, refused, done}
-use Rattle.buffer_state.specs.Seek.{Start, or_else, from_flagged, start_by}
+use Rattle.buffer_state.specs.Refusals.{CallResult}
+use Rattle.buffer_state.specs.declared.Start.{Start}
+use Rattle.buffer_state.specs.Seek.{or_else, from_flagged, start_by}
 use Rattle.buffer_state.specs.Store.{is_of}
 use Rattle.seek.specs.Places.{same_group}
 
@@ -50,20 +52,20 @@ plain-last g e (x ∷ xs) = ap (λ (l : List Frame). or_else l (cond x.flagged (
 
 -- to a target by the frames to decode that are still to be walked, with so many walked
 abbrev pub start_with : ℕ → Frame → List Frame → CallResult Start
-start_with walked f [] = refused NoStart
-start_with walked f (g ∷ gs) = done (record { target = f.number; flagged = g.number; count = length (g ∷ gs) + walked })
+start_with walked f [] = Err NoStart
+start_with walked f (g ∷ gs) = Ok (record { target = f.number; flagged = g.number; count = length (g ∷ gs) + walked })
 
 pub none-walked : (f : Frame) (xs : List Frame) → start_by f xs ≡ start_with 0 f xs
 none-walked f [] = refl
 none-walked f (g ∷ gs) =
     let same : length (g ∷ gs) ≡ length (g ∷ gs) + 0 = omega arith in
-    ap (λ (n : ℕ). done (record { target = f.number; flagged = g.number; count = n })) same
+    ap (λ (n : ℕ). Ok (record { target = f.number; flagged = g.number; count = n })) same
 
 one-walked : (walked : ℕ) (f g : Frame) (xs : List Frame) → start_with walked f (with g xs) ≡ start_with (walked + 1) f xs
 one-walked walked f g [] = refl
 one-walked walked f g (x ∷ xs) =
     let same : length (x ∷ (xs ++ (g ∷ []))) + walked ≡ length (x ∷ xs) + (walked + 1) = omega (arith, length-append xs (g ∷ [])) in
-    ap (λ (n : ℕ). done (record { target = f.number; flagged = x.number; count = n })) same
+    ap (λ (n : ℕ). Ok (record { target = f.number; flagged = x.number; count = n })) same
 
 module _ (f : Frame) (fs : List Frame) (z : Frame) (i : ℕ) (some : 0 < i) (here : i ≤ length fs) (walked : ℕ) where
   -- what the walk from a place back comes to
@@ -96,11 +98,11 @@ module _ (f : Frame) (fs : List Frame) (z : Frame) (i : ℕ) (some : 0 < i) (her
           ∙ one-walked walked f last (from_flagged (same_group f (take (i - 1) fs)))
 
       pub walk-found : (get_or fs (i - 1) z).flagged ≡ true
-          → back walked i ≡ done (record { target = f.number; flagged = (get_or fs (i - 1) z).number; count = 1 + walked })
+          → back walked i ≡ Ok (record { target = f.number; flagged = (get_or fs (i - 1) z).number; count = 1 + walked })
       walk-found g =
           ap (λ (l : List Frame). start_with walked f (from_flagged l)) own-last
           ∙ ap (start_with walked f) (flagged-last last g (same_group f (take (i - 1) fs)))
 
-pub walk-over : (f : Frame) (fs : List Frame) (walked : ℕ) → start_with walked f (from_flagged (same_group f (take 0 fs))) ≡ refused NoStart
+pub walk-over : (f : Frame) (fs : List Frame) (walked : ℕ) → start_with walked f (from_flagged (same_group f (take 0 fs))) ≡ Err NoStart
 unfolding from_flagged same_group
 walk-over f fs walked = refl

@@ -2,12 +2,13 @@
 // and calls a function on the slice and the number.
 #![tactic(auto)]
 
-ghost use Rattle.std.specs.Prelude.{◌≡◌, length, drop};
+ghost use Rattle.std.specs.Prelude.{◌≡◌, length, drop, option_map};
+ghost use Rattle.boxes.specs.Boxes.{part_of, Gives};
 ghost use Rattle.segments.specs.Segments.{list_segment, row_count, rows_after};
 ghost use Rattle.segment_reader.specs.Steps.{step_from, place_after};
 
-use boxes::{Cursor, Step};
-use buffer_state::Count;
+use boxes::{BoxPart, Cursor, Malformed};
+use buffer_state::Refusal;
 use segments::SegmentTrack;
 
 #[derive(Clone, Copy)]
@@ -19,31 +20,27 @@ pub struct SegmentReader<'a> {
 // ---- on a slice and a place
 
 // The box at a place.
-fn step_at(s: &[u8], at: usize) -> Step
-    ensures { result ≡ step_from s.now at }
+fn step_at(s: &[u8], at: usize) -> Result<Option<BoxPart<'_>>, Malformed>
+    ensures { Gives (λ found. option_map part_of found) result (step_from s.now at) }
 {
-    if at <= s.len() {
-        boxes::next(s, Cursor { at: at })
-    } else {
-        Step::Bad
+    if s.len() < at {
+        return Err(Malformed);
     }
+    let mut cursor = Cursor { at };
+    cursor.next_box(s)
 }
 
 // The place after it.
 fn place_after(s: &[u8], at: usize) -> usize
     ensures { result ≡ place_after s.now at }
 {
-    let f = step_at(s, at);
-    match f {
-        Step::End => at,
-        Step::Bad => at,
-        Step::Found {
-            kind: _,
-            start: _,
-            end: _,
-            next: n,
-        } => n.at,
+    if s.len() < at {
+        return at;
     }
+    let mut cursor = Cursor { at };
+    // Where no box is found, the cursor stays.
+    let _ = cursor.next_box(s);
+    cursor.at
 }
 
 // ---- on a reader
@@ -56,8 +53,8 @@ pub fn opened<'a>(segment: &'a [u8]) -> SegmentReader<'a>
 }
 
 // The box at the reader's place.
-pub fn look<'a>(r: SegmentReader<'a>) -> Step
-    ensures { result ≡ step_from r.entry.segment.now r.entry.at }
+pub fn look<'a>(r: SegmentReader<'a>) -> Result<Option<BoxPart<'a>>, Malformed>
+    ensures { Gives (λ found. option_map part_of found) result (step_from r.entry.segment.now r.entry.at) }
 {
     step_at(r.segment, r.at)
 }
@@ -74,7 +71,11 @@ pub fn onward<'a>(r: SegmentReader<'a>) -> SegmentReader<'a>
 }
 
 // The frames of a track in what stands from the reader's place on.
-pub fn frames<'a>(r: SegmentReader<'a>, of: SegmentTrack, list: &mut [[i64; 6]]) -> Count
+pub fn frames<'a>(
+    r: SegmentReader<'a>,
+    of: SegmentTrack,
+    list: &mut [[i64; 6]],
+) -> Result<usize, Refusal>
     ensures value { result ≡ row_count (list_segment of (length list.old) (drop r.entry.at r.entry.segment.now)) }
     ensures list_after { list.new ≡ rows_after (list_segment of (length list.old) (drop r.entry.at r.entry.segment.now)) list.old }
 {
@@ -82,7 +83,11 @@ pub fn frames<'a>(r: SegmentReader<'a>, of: SegmentTrack, list: &mut [[i64; 6]])
 }
 
 // The frames of a track in a segment.
-pub fn list_segment(of: SegmentTrack, segment: &[u8], list: &mut [[i64; 6]]) -> Count
+pub fn list_segment(
+    of: SegmentTrack,
+    segment: &[u8],
+    list: &mut [[i64; 6]],
+) -> Result<usize, Refusal>
     ensures value { result ≡ row_count (list_segment of (length list.old) segment.now) }
     ensures list_after { list.new ≡ rows_after (list_segment of (length list.old) segment.now) list.old }
 {

@@ -21,9 +21,8 @@ use Rattle.media_times.specs.declared.Sample.{Sample}
 use Rattle.media_times.proofs.LimitLaws.{limits-by-times}
 use Rattle.segments.specs.Listings.{total}
 use Rattle.segments.specs.Segments.{all_in_limits, rows_of}
-use Rattle.segments.specs.Walks.{lost_walk, least_of, moved_by, rows_for, laid_rows, Standing}
+use Rattle.segments.specs.Walks.{Known, lost_walk, least_of, moved_by, rows_for, laid_rows, Standing}
 use Rattle.segments.specs.declared.SegmentTrack.{SegmentTrack}
-use Rattle.segments.specs.declared.Walk.{Walk}
 use Rattle.segments.proofs.LaidLaws.{laid-full}
 use Rattle.segments.proofs.SampleLaws.{all_both, both-in, more-in, rows_both, rows-length}
 use Rattle.segments.proofs.StandLaws.{lost-stands, stood, standing-count, stands-moved}
@@ -104,7 +103,7 @@ module _ (d : Defaults) (r : Run) (b : List ℕ) (w : width_of r.word ≡ 0) whe
 
 -- ---- a walk over it
 
-module _ (of : SegmentTrack) (write : Bool) (before : List (List ℤ)) (l : List Sample) (w : Walk) (list : List (List ℤ)) (st : Standing of write before l w list)
+module _ (of : SegmentTrack) (write : Bool) (before : List (List ℤ)) (l : List Sample) (w : Known) (list : List (List ℤ)) (st : Standing of write before l w list)
     (d : Defaults) (r : Run) (b : List ℕ) (t : ℕ) where
   abbrev all : List Sample
   all = samples_from d r b 0 r.count t
@@ -144,7 +143,7 @@ module _ (of : SegmentTrack) (write : Bool) (before : List (List ℤ)) (l : List
             (λ h. let o = leb-false (length l) (length before) h in omega (arith, o, a, s))
 
     -- a run inside its limits, of which the first rows were walked
-    pub run_moved : (v : Walk) (after : List (List ℤ)) (t' : ℕ) → w.good ≡ true → all_of (in_limits of.timescale) all ≡ true → n ≡ rows_for write r.count (length list - w.count)
+    pub run_moved : (v : Known) (after : List (List ℤ)) (t' : ℕ) → w.good ≡ true → all_of (in_limits of.timescale) all ≡ true → n ≡ rows_for write r.count (length list - w.count)
         → Standing of write before (l ++ firsts) v after
         → Standing of write before (l ++ all) (moved_by (length after) w r.count t') after
     run_moved v after t' g e k z =

@@ -1,4 +1,5 @@
 -- From a walk over a whole movie fragment to what the call gives: each refusal, and the rows. Assumes nothing.
+use Rattle.std.specs.Prelude.{Option, Result, Ok, Err}
 use mathlib.Core.Path.{◌≡◌, refl, sym, ap, ◌∙◌}
 use mathlib.Core.Bool.{Bool, true, false}
 use mathlib.Core.List.{List, [], ◌++◌}
@@ -9,19 +10,19 @@ use lib.ListN.{length, drop}
 use lib.Dec.{ltb}
 use borrow.Author.Tests.{ltb-false, le-leb, le-ltb}
 use Rattle.laws.proofs.BoolLaws.{split}
-use Rattle.buffer_state.specs.Refusals.{refused, done}
+use Rattle.std.specs.Result.{IsErr, IsErrAnd}
+use Rattle.buffer_state.specs.declared.Refusal.{Refusal}
 use Rattle.buffer_state.specs.declared.Refusal.TheVariants as why
 use Rattle.boxes.specs.Boxes.{skipping, boxes_of}
-use Rattle.boxes.specs.Lone.{Lone, none, lone, lone_in}
+use Rattle.boxes.specs.Lone.{lone_in}
+use Rattle.boxes.specs.declared.Malformed.{Malformed}
 use Rattle.media_times.specs.MediaTimes.{good_scale}
 use Rattle.media_times.specs.declared.Sample.{Sample}
 use Rattle.segments.specs.Listings.{moof_kind, Listing, malformed, listing, movie_listing, listing_in, segment_listing}
 use Rattle.segments.specs.Segments.{all_in_limits, rows_of, listed_in, list_movie, listed_lone, list_segment}
-use Rattle.segments.specs.Walks.{started_at, walk_at, samples_in, Standing, Further, Reached}
+use Rattle.segments.specs.Walks.{Known, known, started_at, walk_at, samples_in, Standing, Further, Reached}
 use Rattle.segments.specs.declared.SegmentTrack.{SegmentTrack}
 use Rattle.segments.specs.declared.Walk.{Walk}
-use Rattle.segments.specs.declared.Walked.{Walked}
-use Rattle.segments.specs.declared.Walked.TheVariants.{Malformed, Upto}
 use Rattle.segments.proofs.LaidLaws.{laid-all}
 use Rattle.segments.proofs.SampleLaws.{none_in, rows-length}
 use Rattle.segments.proofs.StandLaws.{stood, standing-count}
@@ -44,14 +45,19 @@ start-stands of write list = record {
 }
 
 -- nothing stands past the end
-pub past_end : (of : SegmentTrack) (places : ℕ) → list_segment of places [] ≡ refused why.Malformed
+pub past_end : (of : SegmentTrack) (places : ℕ) → list_segment of places [] ≡ Err why.Malformed
 unfolding list_segment segment_listing skipping
 past_end of places = refl
+
+-- what became of bytes that are not well-formed
+pub is_refused : {A : Type 0} (r : Result A Refusal) → IsErr r → IsErrAnd r (λ w. w ≡ why.Malformed) → r ≡ Err why.Malformed
+is_refused (Err w) h e = ap Err e
+is_refused (Ok x) h e = absurd cc
 
 -- ---- what the call gives
 
 module _ (of : SegmentTrack) (b : List ℕ) (places : ℕ) where
-  pub gives-malformed : movie_listing of b ≡ malformed → list_movie of places b ≡ refused why.Malformed
+  pub gives-malformed : movie_listing of b ≡ malformed → list_movie of places b ≡ Err why.Malformed
   unfolding list_movie
   gives-malformed e = rw e
 
@@ -60,13 +66,13 @@ module _ (of : SegmentTrack) (b : List ℕ) (places : ℕ) where
     unfolding list_movie
     gives = ap (listed_in of places) e
 
-    pub gives-limits : all_in_limits of.timescale x ≡ false → list_movie of places b ≡ refused why.FrameLimits
+    pub gives-limits : all_in_limits of.timescale x ≡ false → list_movie of places b ≡ Err why.FrameLimits
     gives-limits p = gives ∙ rw p
 
-    pub gives-short : all_in_limits of.timescale x ≡ true → ltb places (length x) ≡ true → list_movie of places b ≡ refused why.ShortList
+    pub gives-short : all_in_limits of.timescale x ≡ true → ltb places (length x) ≡ true → list_movie of places b ≡ Err why.ShortList
     gives-short p q = gives ∙ rw (p, q)
 
-    pub gives-rows : all_in_limits of.timescale x ≡ true → ltb places (length x) ≡ false → list_movie of places b ≡ done (rows_of of x)
+    pub gives-rows : all_in_limits of.timescale x ≡ true → ltb places (length x) ≡ false → list_movie of places b ≡ Ok (rows_of of x)
     gives-rows p q = gives ∙ rw (p, q)
 
 -- a segment gives what its one movie fragment does
@@ -74,13 +80,13 @@ pub segment-by-movie : (of : SegmentTrack) (places : ℕ) (s : List ℕ) → lis
 unfolding list_movie list_segment segment_listing
 segment-by-movie of places s = go (lone_in moof_kind moof_kind (boxes_of s))
   where
-    go : (x : Lone) → listed_in of places (listing_in of x) ≡ listed_lone of places x
-    go none = refl
-    go (lone b) = refl
+    go : (x : Result (List ℕ) Malformed) → listed_in of places (listing_in of x) ≡ listed_lone of places x
+    go (Err e) = refl
+    go (Ok b) = refl
 
 -- ---- what the walk that judges knows
 
-module _ (of : SegmentTrack) (list : List (List ℤ)) (more : Listing) (w : Walk) (h : Further of false list [] more w list) where
+module _ (of : SegmentTrack) (list : List (List ℤ)) (more : Listing) (w : Known) (h : Further of false list [] more w list) where
   abbrev x : List Sample
   x = samples_in more
 
@@ -88,7 +94,7 @@ module _ (of : SegmentTrack) (list : List (List ℤ)) (more : Listing) (w : Walk
   judged-good = stood of false list x w list h.standing
 
   pub judged-over : w.good ≡ true → w.over ≡ ltb (length list) (length x)
-  judged-over g = ap (λ (v : Walk). v.over) (h.standing.knows ∙ walk-in of.timescale (length list) x w.time (sym judged-good ∙ g))
+  judged-over g = ap (λ (v : Known). v.over) (h.standing.knows ∙ walk-in of.timescale (length list) x w.time (sym judged-good ∙ g))
 
   -- where there are places for all, its count is theirs
   pub judged-count : w.good ≡ true → ltb (length list) (length x) ≡ false → w.count ≡ length (rows_of of x)
@@ -97,12 +103,12 @@ module _ (of : SegmentTrack) (list : List (List ℤ)) (more : Listing) (w : Walk
       ∙ (rw (le-leb (length x) (length list) (ltb-false (length list) (length x) o)) (sym (rows-length of x)))
 
 -- and what the walk that writes has written
-pub written : (of : SegmentTrack) (list : List (List ℤ)) (more : Listing) (q : Walked) (after : List (List ℤ)) → Reached of true list [] more q after → more ≡ listing (samples_in more)
+pub written : (of : SegmentTrack) (list : List (List ℤ)) (more : Listing) (q : Result (Option Walk) Malformed) (after : List (List ℤ)) → Reached of true list [] more q after → more ≡ listing (samples_in more)
     → all_in_limits of.timescale (samples_in more) ≡ true → ltb (length list) (length (samples_in more)) ≡ false
     → after ≡ rows_of of (samples_in more) ++ drop (length (rows_of of (samples_in more))) list
-written of list more Malformed after r e p o = let c = sym r.0 ∙ e in let z : ◌≡◌ {A = ℕ} 0 1 = cc in absurd (omega arith)
-written of list more (Upto v) after r e p o =
+written of list more (Err x) after r e p o = let c = sym r.0 ∙ e in let z : ◌≡◌ {A = ℕ} 0 1 = cc in absurd (omega arith)
+written of list more (Ok v) after r e p o =
     let x = samples_in more in
     let n = rows-length of x in
     let m = ltb-false (length list) (length x) o in
-    r.standing.writing refl (stood of true list x v after r.standing ∙ p) ∙ laid-all (rows_of of x) list (omega (arith, n, m))
+    r.standing.writing refl (stood of true list x (known v) after r.standing ∙ p) ∙ laid-all (rows_of of x) list (omega (arith, n, m))

@@ -11,9 +11,8 @@ use Rattle.fragments.specs.declared.Defaults.{Defaults}
 use Rattle.fragments.specs.declared.Run.{Run}
 use Rattle.media_times.specs.declared.Sample.{Sample}
 use Rattle.segments.specs.Listings.{total}
-use Rattle.segments.specs.Walks.{Standing, IsTimed}
+use Rattle.segments.specs.Walks.{Known, Standing, IsTimed}
 use Rattle.segments.specs.declared.SegmentTrack.{SegmentTrack}
-use Rattle.segments.specs.declared.Walk.{Walk}
 use Rattle.segments.proofs.SampleLaws.{total-both}
 use Rattle.segments.proofs.StandLaws.{stands-lost}
 
@@ -30,13 +29,13 @@ pub samples-none : (d : Defaults) (r : Run) (b : List ℕ) (i n t : ℕ) → n �
 unfolding samples_from
 samples-none d r b i n t h = let e : n - i ≡ 0 = omega arith in rw e
 
-module _ (of : SegmentTrack) (d : Defaults) (r : Run) (b : List ℕ) (n : ℕ) (write : Bool) (w : Walk) (lent : List (List ℤ)) where
+module _ (of : SegmentTrack) (d : Defaults) (r : Run) (b : List ℕ) (n : ℕ) (write : Bool) (w : Known) (lent : List (List ℤ)) where
   -- the samples that are to be walked
   abbrev all : List Sample
   all = samples_from d r b 0 n w.time
 
   -- A walk before sample i: it has done `done`, and if it still knows where it is, `left` is what follows from there.
-  pub record Along (i : ℕ) (v : Walk) (list : List (List ℤ)) : Type 0 where
+  pub record Along (i : ℕ) (v : Known) (list : List (List ℤ)) : Type 0 where
     pub done : List Sample
     pub left : List Sample
     pub all_of : done ++ left ≡ all
@@ -44,9 +43,9 @@ module _ (of : SegmentTrack) (d : Defaults) (r : Run) (b : List ℕ) (n : ℕ) (
     pub timed : v.good ≡ true → v.time ≡ w.time + total done
     pub stands : (before : List (List ℤ)) (l : List Sample) → Standing of write before l w lent → Standing of write before (l ++ done) v list
 
-  module _ (i : ℕ) (v : Walk) (list : List (List ℤ)) (a : Along i v list) where
+  module _ (i : ℕ) (v : Known) (list : List (List ℤ)) (a : Along i v list) where
     -- one more sample
-    pub along-more : (v' : Walk) (list' : List (List ℤ)) → i < n → v.good ≡ true
+    pub along-more : (v' : Known) (list' : List (List ℤ)) → i < n → v.good ≡ true
         → ((before : List (List ℤ)) (l : List Sample) → Standing of write before l v list → Standing of write before (l ++ (sample_at d r b i v.time ∷ [])) v' list')
         → IsTimed (v.time + (sample_at d r b i v.time).duration) v'
         → Along (i + 1) v' list'

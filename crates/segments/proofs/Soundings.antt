@@ -1,18 +1,18 @@
 -- Segments written out byte by byte, and what reading them gives, computed by the checker. Assumes nothing.
+use Rattle.std.specs.Prelude.{Ok, Err}
 use mathlib.Core.Path.{◌≡◌, refl}
 use mathlib.Core.List.{List, [], ◌∷◌, ◌++◌, map}
 use Prim.Native.Nat.{ℕ, ◌+◌, ◌/◌, ◌%◌}
 use lib.IntN.{ℤ, pos, neg_ℤ}
 use lib.ListN.{length, replicate}
-use Rattle.buffer_state.specs.Refusals.{refused, done}
 use Rattle.buffer_state.specs.Limits.{offered_time}
 use Rattle.buffer_state.specs.WellFormed.{all_of}
 use Rattle.buffer_state.specs.declared.Refusal.TheVariants.{FrameLimits, ShortList, Malformed}
 use Rattle.boxes.specs.Boxes.{be4, be8, skipping}
 use Rattle.fragments.specs.FullBoxes.{optional}
-use Rattle.fragments.specs.Headers.{header_by, header_of}
+use Rattle.fragments.specs.Headers.{header_of}
 use Rattle.fragments.specs.Runs.{run_by, run_of, sample_at, samples_from}
-use Rattle.fragments.specs.Times.{time_by, time_of}
+use Rattle.fragments.specs.Times.{time_of}
 use Rattle.media_times.specs.MediaTimes.{micros_of, good_scale, in_limits, row_of}
 use Rattle.segments.specs.Listings.{moof_kind, traf_kind, tfhd_kind, tfdt_kind, trun_kind, runs_from, fragment_listing, movie_listing, segment_listing}
 use Rattle.segments.specs.Segments.{all_in_limits, list_segment}
@@ -42,12 +42,12 @@ row p d n = pos 2 ∷ p ∷ d ∷ pos n ∷ pos 1 ∷ pos 9 ∷ []
 
 -- rounded down below zero, a duration as the difference of the converted ends, and a second run where the first one ends
 pub two_runs : list_segment of 4 (box moof_kind (traf 0 (run ++ run)))
-    ≡ done (row (pos 333333) (pos 0) 1000000
+    ≡ Ok (row (pos 333333) (pos 0) 1000000
     ∷ row (neg_ℤ (pos 1000000)) (pos 1000000) 666666
     ∷ row (pos 2000000) (pos 1666666) 1000000
     ∷ row (pos 666666) (pos 2666666) 666667
     ∷ [])
-unfolding list_segment segment_listing movie_listing fragment_listing runs_from skipping be4 be8 optional header_by header_of time_by time_of run_by run_of sample_at samples_from all_in_limits good_scale in_limits offered_time all_of micros_of row_of
+unfolding list_segment segment_listing movie_listing fragment_listing runs_from skipping be4 be8 optional header_of time_of run_by run_of sample_at samples_from all_in_limits good_scale in_limits offered_time all_of micros_of row_of
 two_runs = refl
 
 -- what is not well-formed, whatever its times and however short the list
@@ -74,8 +74,8 @@ pub malformed-segments : map (list_segment of 0)
     ∷ box moof_kind (late ++ box traf_kind (tfhd ++ (tfdt ++ box trun_kind (word 256 ++ (word 2 ++ word 1)))))
     ∷ box moof_kind (late ++ box traf_kind (tfhd ++ (tfdt ++ box trun_kind (word 33554432 ++ word 0))))
     ∷ [])
-    ≡ replicate 12 (refused Malformed)
-unfolding list_segment segment_listing movie_listing fragment_listing runs_from skipping be4 be8 optional header_by header_of time_by time_of run_by run_of sample_at samples_from all_in_limits good_scale in_limits offered_time all_of micros_of row_of
+    ≡ replicate 12 (Err Malformed)
+unfolding list_segment segment_listing movie_listing fragment_listing runs_from skipping be4 be8 optional header_of time_of run_by run_of sample_at samples_from all_in_limits good_scale in_limits offered_time all_of micros_of row_of
 malformed-segments = refl
 
 -- nothing to list: no fragment, a 64-bit size, another track's fragment without a decode time, one of this track without runs
@@ -85,19 +85,19 @@ pub empty-segments : map (list_segment of 0)
     ∷ box moof_kind (box traf_kind (box tfhd_kind (word 0 ++ word 8) ++ run))
     ∷ box moof_kind (box traf_kind (tfdt ++ tfhd))
     ∷ [])
-    ≡ replicate 4 (done [])
-unfolding list_segment segment_listing movie_listing fragment_listing runs_from skipping be4 be8 optional header_by header_of time_by time_of run_by run_of sample_at samples_from all_in_limits good_scale in_limits offered_time all_of micros_of row_of
+    ≡ replicate 4 (Ok [])
+unfolding list_segment segment_listing movie_listing fragment_listing runs_from skipping be4 be8 optional header_of time_of run_by run_of sample_at samples_from all_in_limits good_scale in_limits offered_time all_of micros_of row_of
 empty-segments = refl
 
 -- a time beyond the limit comes before a list that is too short, and a timescale beyond its own even where nothing is listed
-pub late-segment : list_segment of 1 (box moof_kind late) ≡ refused FrameLimits
-unfolding list_segment segment_listing movie_listing fragment_listing runs_from skipping be4 be8 optional header_by header_of time_by time_of run_by run_of sample_at samples_from all_in_limits good_scale in_limits offered_time all_of micros_of row_of
+pub late-segment : list_segment of 1 (box moof_kind late) ≡ Err FrameLimits
+unfolding list_segment segment_listing movie_listing fragment_listing runs_from skipping be4 be8 optional header_of time_of run_by run_of sample_at samples_from all_in_limits good_scale in_limits offered_time all_of micros_of row_of
 late-segment = refl
 
-pub no-timescale : list_segment (record { id = 7; track = 2; timescale = 0; defaults = of.defaults }) 1 (box moof_kind []) ≡ refused FrameLimits
+pub no-timescale : list_segment (record { id = 7; track = 2; timescale = 0; defaults = of.defaults }) 1 (box moof_kind []) ≡ Err FrameLimits
 unfolding list_segment segment_listing movie_listing skipping be4 all_in_limits good_scale
 no-timescale = refl
 
-pub short-list : list_segment of 1 (box moof_kind (traf 0 run)) ≡ refused ShortList
-unfolding list_segment segment_listing movie_listing fragment_listing runs_from skipping be4 be8 optional header_by header_of time_by time_of run_by run_of sample_at samples_from all_in_limits good_scale in_limits offered_time all_of micros_of row_of
+pub short-list : list_segment of 1 (box moof_kind (traf 0 run)) ≡ Err ShortList
+unfolding list_segment segment_listing movie_listing fragment_listing runs_from skipping be4 be8 optional header_of time_of run_by run_of sample_at samples_from all_in_limits good_scale in_limits offered_time all_of micros_of row_of
 short-list = refl

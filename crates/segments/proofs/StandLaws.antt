@@ -13,26 +13,25 @@ use Rattle.buffer_state.specs.WellFormed.{all_of}
 use Rattle.media_times.specs.MediaTimes.{in_limits, row_of}
 use Rattle.media_times.specs.declared.Sample.{Sample}
 use Rattle.segments.specs.Segments.{all_in_limits, rows_of}
-use Rattle.segments.specs.Walks.{lost_walk, begun_at, least_of, walk_at, moved_by, laid_rows, Standing}
+use Rattle.segments.specs.Walks.{Known, lost_walk, begun_at, least_of, walk_at, moved_by, laid_rows, Standing}
 use Rattle.segments.specs.declared.SegmentTrack.{SegmentTrack}
-use Rattle.segments.specs.declared.Walk.{Walk}
 use Rattle.segments.proofs.LaidLaws.{laid_more, set_past}
 use Rattle.segments.proofs.SampleLaws.{stays_out, one_out, one_in, rows_both, rows-length}
 use Rattle.segments.proofs.WalkLaws.{walk-in, walk-out, walk-good, moved_on}
 
 -- a walk that is moved on has the time that it is moved to
-pub moved-time : (places : ℕ) (w : Walk) (n t : ℕ) → (moved_by places w n t).time ≡ t
+pub moved-time : (places : ℕ) (w : Known) (n t : ℕ) → (moved_by places w n t).time ≡ t
 moved-time places w n t = go (leb n (places - w.count))
   where
-    go : (b : Bool) → (cond {A = Walk} b (record { good = true; over = w.over; count = w.count + n; time = t }) (record { good = true; over = true; count = places; time = t })).time ≡ t
+    go : (b : Bool) → (cond {A = Known} b (record { good = true; over = w.over; count = w.count + n; time = t }) (record { good = true; over = true; count = places; time = t })).time ≡ t
     go true = refl
     go false = refl
 
-pub begun-time : (w : Walk) (t : ℕ) → (begun_at w t).good ≡ true → (begun_at w t).time ≡ t
+pub begun-time : (w : Known) (t : ℕ) → (begun_at w t).good ≡ true → (begun_at w t).time ≡ t
 begun-time w t = go w.good refl
   where
-    go : (b : Bool) → w.good ≡ b → (cond {A = Walk} b (record { good = true; over = w.over; count = w.count; time = t }) w).good ≡ true
-        → (cond {A = Walk} b (record { good = true; over = w.over; count = w.count; time = t }) w).time ≡ t
+    go : (b : Bool) → w.good ≡ b → (cond {A = Known} b (record { good = true; over = w.over; count = w.count; time = t }) w).good ≡ true
+        → (cond {A = Known} b (record { good = true; over = w.over; count = w.count; time = t }) w).time ≡ t
     go true e g = refl
     go false e g = both_ways g e
 
@@ -51,21 +50,21 @@ lost-stands of write before l list out kept n = record {
   places = n;
 }
 
-module _ (of : SegmentTrack) (write : Bool) (before : List (List ℤ)) (l : List Sample) (w : Walk) (list : List (List ℤ)) (st : Standing of write before l w list) where
+module _ (of : SegmentTrack) (write : Bool) (before : List (List ℤ)) (l : List Sample) (w : Known) (list : List (List ℤ)) (st : Standing of write before l w list) where
   pub stood : w.good ≡ all_in_limits of.timescale l
-  stood = ap (λ (v : Walk). v.good) st.knows ∙ walk-good of.timescale (length before) l w.time
+  stood = ap (λ (v : Known). v.good) st.knows ∙ walk-good of.timescale (length before) l w.time
 
   pub standing-count : w.good ≡ true → w.count ≡ least_of (length l) (length before)
-  standing-count g = ap (λ (v : Walk). v.count) (st.knows ∙ walk-in of.timescale (length before) l w.time (sym stood ∙ g))
+  standing-count g = ap (λ (v : Known). v.count) (st.knows ∙ walk-in of.timescale (length before) l w.time (sym stood ∙ g))
 
   -- at another time it stands where it stood
   pub stands-begun : (t : ℕ) → Standing of write before l (begun_at w t) list
   stands-begun t = go w.good refl
     where
-      same : (t : ℕ) {v : Walk} → w ≡ v → ◌≡◌ {A = Walk} (record { good = true; over = w.over; count = w.count; time = t }) (record { good = true; over = v.over; count = v.count; time = t })
+      same : (t : ℕ) {v : Known} → w ≡ v → ◌≡◌ {A = Known} (record { good = true; over = w.over; count = w.count; time = t }) (record { good = true; over = v.over; count = v.count; time = t })
       same t e = λ i. record { good = true; over = (e i).over; count = (e i).count; time = t }
 
-      go : (b : Bool) → w.good ≡ b → Standing of write before l (cond {A = Walk} b (record { good = true; over = w.over; count = w.count; time = t }) w) list
+      go : (b : Bool) → w.good ≡ b → Standing of write before l (cond {A = Known} b (record { good = true; over = w.over; count = w.count; time = t }) w) list
       go true g = record {
         knows = same t (st.knows ∙ walk-in of.timescale (length before) l w.time (sym stood ∙ g)) ∙ sym (walk-in of.timescale (length before) l t (sym stood ∙ g));
         judging = st.judging;

@@ -13,9 +13,8 @@ use Rattle.buffer_state.specs.WellFormed.{all_of}
 use Rattle.media_times.specs.MediaTimes.{good_scale, in_limits}
 use Rattle.media_times.specs.declared.Sample.{Sample}
 use Rattle.segments.specs.Segments.{all_in_limits}
-use Rattle.segments.specs.Walks.{lost_walk, least_of, walk_at, moved_by, Standing, Somewhere}
+use Rattle.segments.specs.Walks.{Known, lost_walk, least_of, walk_at, moved_by, Standing, Somewhere}
 use Rattle.segments.specs.declared.SegmentTrack.{SegmentTrack}
-use Rattle.segments.specs.declared.Walk.{Walk}
 use Rattle.segments.proofs.SampleLaws.{scale_in, more-in}
 
 -- ---- what a walk at samples knows
@@ -50,7 +49,7 @@ walk-count scale places l t =
 
 -- ---- what a walk that stands somewhere may be asked
 
-module _ (of : SegmentTrack) (write : Bool) (w : Walk) (list : List (List ℤ)) (s : Somewhere of write w list) where
+module _ (of : SegmentTrack) (write : Bool) (w : Known) (list : List (List ℤ)) (s : Somewhere of write w list) where
   stands : Standing of write s.before s.samples w list
   stands = s.standing
 
@@ -60,16 +59,16 @@ module _ (of : SegmentTrack) (write : Bool) (w : Walk) (list : List (List ℤ)) 
   pub somewhere-scale : w.good ≡ true → good_scale of.timescale ≡ true
   somewhere-scale g =
       scale_in of.timescale s.samples
-      (sym (ap (λ (v : Walk). v.good) stands.knows ∙ walk-good of.timescale (length s.before) s.samples w.time) ∙ g)
+      (sym (ap (λ (v : Known). v.good) stands.knows ∙ walk-good of.timescale (length s.before) s.samples w.time) ∙ g)
 
 -- ---- moved on
 
 -- a walk by its count, with all in its limits
-abbrev at_count : ℕ → ℕ → ℕ → Walk
+abbrev at_count : ℕ → ℕ → ℕ → Known
 at_count places k t = record { good = true; over = ltb places k; count = least_of k places; time = t }
 
 same-walk : {a b : Bool} {m n : ℕ} (t : ℕ) → a ≡ b → m ≡ n
-    → ◌≡◌ {A = Walk} (record { good = true; over = a; count = m; time = t }) (record { good = true; over = b; count = n; time = t })
+    → ◌≡◌ {A = Known} (record { good = true; over = a; count = m; time = t }) (record { good = true; over = b; count = n; time = t })
 same-walk t p q = λ i. record { good = true; over = p i; count = q i; time = t }
 
 -- n more samples

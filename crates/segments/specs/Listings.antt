@@ -1,19 +1,16 @@
 -- Document 02, No. 1: the samples of one track in a segment, in file order, from its one movie fragment (ISO/IEC 14496-12, 8.8).
 -- "Other boxes are skipped."
-use Rattle.std.specs.Prelude.{cond, List, [], ◌∷◌, ◌++◌, ℕ, ◌+◌, eqb}
+use Rattle.std.specs.Prelude.{cond, List, [], ◌∷◌, ◌++◌, ℕ, ◌+◌, eqb, Result, Ok, Err}
 use Rattle.boxes.specs.Boxes.{Mp4Box, boxes_of}
 use Rattle.boxes.specs.Folds.{folded}
-use Rattle.boxes.specs.Lone.{Lone, none, lone, lone_in}
+use Rattle.boxes.specs.Lone.{lone_in}
+use Rattle.boxes.specs.declared.Malformed.{Malformed}
 use Rattle.fragments.specs.Headers.{header_of}
 use Rattle.fragments.specs.Runs.{run_of, samples_from}
 use Rattle.fragments.specs.Times.{time_of}
 use Rattle.fragments.specs.declared.Defaults.{Defaults}
-use Rattle.fragments.specs.declared.ReadHeader.{ReadHeader}
-use Rattle.fragments.specs.declared.ReadHeader.TheVariants as header
-use Rattle.fragments.specs.declared.ReadRun.{ReadRun}
-use Rattle.fragments.specs.declared.ReadRun.TheVariants as run
-use Rattle.fragments.specs.declared.ReadTime.{ReadTime}
-use Rattle.fragments.specs.declared.ReadTime.TheVariants as time
+use Rattle.fragments.specs.declared.Header.{Header}
+use Rattle.fragments.specs.declared.Run.{Run}
 use Rattle.media_times.specs.declared.Sample.{Sample}
 use Rattle.segments.specs.declared.SegmentTrack.{SegmentTrack}
 
@@ -51,9 +48,9 @@ total (s ∷ l) = s.duration + total l
 -- ---- a track fragment
 
 -- a run's samples, the first of them at this time
-abbrev pub run_listing : Defaults → ℕ → List ℕ → ReadRun → Listing
-run_listing d time b run.Bad = malformed
-run_listing d time b (run.Is r) = listing (samples_from d r b 0 r.count time)
+abbrev pub run_listing : Defaults → ℕ → List ℕ → Result Run Malformed → Listing
+run_listing d time b (Err e) = malformed
+run_listing d time b (Ok r) = listing (samples_from d r b 0 r.count time)
 
 -- one more box of the fragment: a run begins where the runs before it end
 abbrev pub with_run : Defaults → ℕ → Listing → Mp4Box → Listing
@@ -64,23 +61,23 @@ unfoldable pub runs_from : Defaults → ℕ → List ℕ → Listing
 runs_from d time b = folded (with_run d time) malformed (listing []) (boxes_of b)
 
 -- its decode time and its header, each of which there is once and before every run
-abbrev pub time_in : Lone → ReadTime
-time_in none = time.Bad
-time_in (lone b) = time_of b
+abbrev pub time_in : Result (List ℕ) Malformed → Result ℕ Malformed
+time_in (Err e) = Err e
+time_in (Ok b) = time_of b
 
-abbrev pub header_in : Defaults → Lone → ReadHeader
-header_in d none = header.Bad
-header_in d (lone b) = header_of d b
+abbrev pub header_in : Defaults → Result (List ℕ) Malformed → Result Header Malformed
+header_in d (Err e) = Err e
+header_in d (Ok b) = header_of d b
 
 -- its runs from that time on
-abbrev pub runs_by : Defaults → List ℕ → ReadTime → Listing
-runs_by d b time.Bad = malformed
-runs_by d b (time.At t) = runs_from d t b
+abbrev pub runs_by : Defaults → List ℕ → Result ℕ Malformed → Listing
+runs_by d b (Err e) = malformed
+runs_by d b (Ok t) = runs_from d t b
 
 -- "Other tracks' fragments are read for that header only; none of this track lists nothing."
-abbrev pub fragment_by : SegmentTrack → List ℕ → ReadHeader → Listing
-fragment_by of b header.Bad = malformed
-fragment_by of b (header.Is h) = cond (eqb h.id of.id) (runs_by h.defaults b (time_in (lone_in tfdt_kind trun_kind (boxes_of b)))) (listing [])
+abbrev pub fragment_by : SegmentTrack → List ℕ → Result Header Malformed → Listing
+fragment_by of b (Err e) = malformed
+fragment_by of b (Ok h) = cond (eqb h.id of.id) (runs_by h.defaults b (time_in (lone_in tfdt_kind trun_kind (boxes_of b)))) (listing [])
 
 unfoldable pub fragment_listing : SegmentTrack → List ℕ → Listing
 fragment_listing of b = fragment_by of b (header_in of.defaults (lone_in tfhd_kind trun_kind (boxes_of b)))
@@ -96,9 +93,9 @@ unfoldable pub movie_listing : SegmentTrack → List ℕ → Listing
 movie_listing of b = folded (with_fragment of) malformed (listing []) (boxes_of b)
 
 -- the one movie fragment of the segment: a second one would stand after a box of its own type
-abbrev pub listing_in : SegmentTrack → Lone → Listing
-listing_in of none = malformed
-listing_in of (lone b) = movie_listing of b
+abbrev pub listing_in : SegmentTrack → Result (List ℕ) Malformed → Listing
+listing_in of (Err e) = malformed
+listing_in of (Ok b) = movie_listing of b
 
 unfoldable pub segment_listing : SegmentTrack → List ℕ → Listing
 segment_listing of s = listing_in of (lone_in moof_kind moof_kind (boxes_of s))

@@ -1,8 +1,8 @@
 // The recorder's segments: the frames of one track, listed as rows of numbers. The segment is walked twice: first every box and sample is
-// judged, then the rows are written.
+// judged, then the rows are written. `write` says which: one walk with one contract, so that what is written is what was judged.
 #![tactic(auto)]
 
-ghost use Rattle.std.specs.Prelude.{◌≡◌, true, false, cond, [], ◌∷◌, ℕ, ◌+◌, ◌*◌, ◌≤◌, ◌<◌, pos, length, drop, set};
+ghost use Rattle.std.specs.Prelude.{◌≡◌, true, false, cond, [], ◌∷◌, Some, Ok, ℕ, ◌+◌, ◌*◌, ◌≤◌, ◌<◌, pos, length, drop, set};
 ghost use Rattle.std.specs.Int.Signed.{mag};
 ghost use Rattle.boxes.specs.Boxes.{boxes_of};
 ghost use Rattle.boxes.specs.Lone.{lone_in};
@@ -11,12 +11,11 @@ ghost use Rattle.media_times.specs.MediaTimes.{good_scale, row_of};
 ghost use Rattle.media_times.specs.declared.Sample.{Sample};
 ghost use Rattle.segments.specs.Listings.{tfhd_kind, tfdt_kind, trun_kind, total, run_listing, runs_from, header_in, time_in, runs_by, fragment_listing, movie_listing};
 ghost use Rattle.segments.specs.Segments.{list_movie, list_segment, row_count, rows_after};
-ghost use Rattle.segments.specs.declared.Walked.TheVariants.{Upto};
-ghost use Rattle.segments.specs.Walks.{lost_walk, started_at, begun_at, moved_by, rows_for, Somewhere, IsTimed, Onward, Reached, Reaches, TimedBy};
+ghost use Rattle.segments.specs.Walks.{known, started_at, begun_at, moved_by, rows_for, Somewhere, IsTimed, Onward, Reached, Reaches, TimedBy};
 
-use boxes::{Cursor, Part, Step};
-use buffer_state::{Count, Refusal};
-use fragments::{Defaults, ReadHeader, ReadRun, ReadTime, Run};
+use boxes::{BoxReader, Malformed};
+use buffer_state::Refusal;
+use fragments::{Defaults, Header, Run};
 use media_times::Sample;
 
 // The types of the boxes, four letters each.
@@ -40,56 +39,38 @@ pub struct SegmentTrack {
     pub defaults: Defaults,
 }
 
-// What is known on the way: whether everything was inside its limits so far, and if so, how many samples there were, up to the places
-// lent, whether there were more, and the decode time of the next one.
-#[derive(Clone, Copy)]
+// What is known on the way, while everything was inside its limits: how many samples there were, up to the places lent, whether there were
+// more (`over`: the count stops at the places), and the decode time of the next one. Past a sample outside its limits there is no walk: refusal 4, unless something is malformed.
+#[derive(Clone, Copy, Debug)]
 pub struct Walk {
-    pub good: bool,
     pub over: bool,
     pub count: usize,
     pub time: u64,
 }
 
-#[derive(Clone, Copy)]
-pub enum Walked {
-    Malformed,
-    Upto(Walk),
-}
-
 // ---- one sample
 
-fn lost() -> Walk
-    ensures { result ≡ lost_walk }
-{
-    Walk {
-        good: false,
-        over: false,
-        count: 0,
-        time: 0,
-    }
-}
-
+// n samples more, up to a time.
 fn moved(w: Walk, places: usize, n: u32, time: u64) -> Walk
     requires { w.count ≤ places }
-    ensures { result ≡ moved_by places w n time }
+    ensures { known (Some result) ≡ moved_by places (known (Some w)) n time }
 {
     let more = n as usize;
     if more <= places - w.count {
         return Walk {
-            good: true,
             over: w.over,
             count: w.count + more,
             time,
         };
     }
     Walk {
-        good: true,
         over: true,
         count: places,
         time,
     }
 }
 
+// By index: of a list lent to `get_mut` a proof knows its length alone.
 fn put_row(list: &mut [[i64; 6]], k: usize, row: [i64; 6])
     ensures { list.new ≡ set list.old k row }
 {
@@ -111,16 +92,22 @@ fn write_row(of: SegmentTrack, k: usize, s: Sample, write: bool, list: &mut [[i6
 }
 
 // One more sample.
-fn walk_sample(of: SegmentTrack, w: Walk, s: Sample, write: bool, list: &mut [[i64; 6]]) -> Walk
-    requires { Somewhere of write w list.old × ((w.good ≡ true) × (mag s.offset < 4294967296)) }
-    ensures stands { Onward of write w list.old (s ∷ []) result list.new }
-    ensures timed { IsTimed (s.time + s.duration) result }
+fn walk_sample(
+    of: SegmentTrack,
+    w: Walk,
+    s: Sample,
+    write: bool,
+    list: &mut [[i64; 6]],
+) -> Option<Walk>
+    requires { Somewhere of write (known (Some w)) list.old × (mag s.offset < 4294967296) }
+    ensures stands { Onward of write (known (Some w)) list.old (s ∷ []) (known result) list.new }
+    ensures timed { IsTimed (s.time + s.duration) (known result) }
 {
     if !media_times::in_limits(of.timescale, s) {
-        return lost();
+        return None;
     }
     write_row(of, w.count, s, write, list);
-    moved(w, list.len(), 1, s.time + (s.duration as u64))
+    Some(moved(w, list.len(), 1, s.time + (s.duration as u64)))
 }
 
 // ---- a run
@@ -135,22 +122,17 @@ fn walk_samples(
     w: Walk,
     write: bool,
     list: &mut [[i64; 6]],
-) -> Walk
-    requires { Fitting b.now r × ((n ≤ r.count) × Somewhere of write w list.old) }
-    ensures stands { Onward of write w list.old (samples_from d r b.now 0 n w.time) result list.new }
-    ensures timed { IsTimed (w.time + total (samples_from d r b.now 0 n w.time)) result }
+) -> Option<Walk>
+    requires { Fitting b.now r × ((n ≤ r.count) × Somewhere of write (known (Some w)) list.old) }
+    ensures stands { Onward of write (known (Some w)) list.old (samples_from d r b.now 0 n w.time) (known result) list.new }
+    ensures timed { IsTimed (w.time + total (samples_from d r b.now 0 n w.time)) (known result) }
 {
     let mut v = w;
-    let mut i: u32 = 0;
-    while i < n {
-        if !v.good {
-            return v;
-        }
+    for i in 0..n {
         let s = fragments::sample_at(d, r, b, i, v.time);
-        v = walk_sample(of, v, s, write, list);
-        i += 1;
+        v = walk_sample(of, v, s, write, list)?;
     }
-    v
+    Some(v)
 }
 
 fn rows_for(write: bool, count: u32, left: usize) -> u32
@@ -195,22 +177,23 @@ fn walk_even(
     w: Walk,
     write: bool,
     list: &mut [[i64; 6]],
-) -> Walk
-    requires { Fitting b.now r × ((width_of r.word ≡ 0) × ((w.good ≡ true) × Somewhere of write w list.old)) }
-    ensures stands { Onward of write w list.old (samples_from d r b.now 0 r.count w.time) result list.new }
-    ensures timed { IsTimed (w.time + total (samples_from d r b.now 0 r.count w.time)) result }
+) -> Option<Walk>
+    requires { Fitting b.now r × ((width_of r.word ≡ 0) × Somewhere of write (known (Some w)) list.old) }
+    ensures stands { Onward of write (known (Some w)) list.old (samples_from d r b.now 0 r.count w.time) (known result) list.new }
+    ensures timed { IsTimed (w.time + total (samples_from d r b.now 0 r.count w.time)) (known result) }
 {
     let count = r.count;
     if count == 0 {
-        return w;
+        return Some(w);
     }
     let s = even_sample(d, w.time);
     if !media_times::evenly_in_limits(of.timescale, count, s) {
-        return lost();
+        return None;
     }
     let n = rows_for(write, count, list.len() - w.count);
-    walk_samples(of, d, r, b, n, w, write, list);
-    moved(w, list.len(), count, time_after(w.time, count, s.duration))
+    // Each of these samples is inside its limits, as all are.
+    let _ = walk_samples(of, d, r, b, n, w, write, list);
+    Some(moved(w, list.len(), count, time_after(w.time, count, s.duration)))
 }
 
 fn walk_run(
@@ -221,10 +204,10 @@ fn walk_run(
     w: Walk,
     write: bool,
     list: &mut [[i64; 6]],
-) -> Walk
-    requires { Fitting b.now r × ((w.good ≡ true) × Somewhere of write w list.old) }
-    ensures stands { Onward of write w list.old (samples_from d r b.now 0 r.count w.time) result list.new }
-    ensures timed { IsTimed (w.time + total (samples_from d r b.now 0 r.count w.time)) result }
+) -> Option<Walk>
+    requires { Fitting b.now r × Somewhere of write (known (Some w)) list.old }
+    ensures stands { Onward of write (known (Some w)) list.old (samples_from d r b.now 0 r.count w.time) (known result) list.new }
+    ensures timed { IsTimed (w.time + total (samples_from d r b.now 0 r.count w.time)) (known result) }
 {
     if fragments::width_of(r.word) == 0 {
         return walk_even(of, d, r, b, w, write, list);
@@ -237,23 +220,19 @@ fn walk_body(
     of: SegmentTrack,
     d: Defaults,
     b: &[u8],
-    w: Walk,
+    w: Option<Walk>,
     write: bool,
     list: &mut [[i64; 6]],
-) -> Walked
-    requires { Somewhere of write w list.old }
-    ensures reached { (t : ℕ) → IsTimed t w → Reaches of write w list.old (run_listing d t b.now (run_of b.now)) result list.new }
-    ensures timed { (t : ℕ) → IsTimed t w → TimedBy t (run_listing d t b.now (run_of b.now)) result }
+) -> Result<Option<Walk>, Malformed>
+    requires { Somewhere of write (known w) list.old }
+    ensures reached { (t : ℕ) → IsTimed t (known w) → Reaches of write (known w) list.old (run_listing d t b.now (run_of b.now)) result list.new }
+    ensures timed { (t : ℕ) → IsTimed t (known w) → TimedBy t (run_listing d t b.now (run_of b.now)) result }
 {
-    match fragments::run_of(b) {
-        ReadRun::Bad => Walked::Malformed,
-        ReadRun::Is(r) => {
-            if w.good {
-                return Walked::Upto(walk_run(of, d, r, b, w, write, list));
-            }
-            Walked::Upto(w)
-        }
-    }
+    let r = fragments::run_of(b)?;
+    let Some(w) = w else {
+        return Ok(None);
+    };
+    Ok(walk_run(of, d, r, b, w, write, list))
 }
 
 // ---- a track fragment
@@ -264,72 +243,42 @@ fn walk_runs(
     d: Defaults,
     s: &[u8],
     time: u64,
-    w: Walk,
+    w: Option<Walk>,
     write: bool,
     list: &mut [[i64; 6]],
-) -> Walked
-    requires { Somewhere of write w list.old × IsTimed time w }
-    ensures { Reaches of write w list.old (runs_from d time s.now) result list.new }
+) -> Result<Option<Walk>, Malformed>
+    requires { Somewhere of write (known w) list.old × IsTimed time (known w) }
+    ensures { Reaches of write (known w) list.old (runs_from d time s.now) result list.new }
 {
-    let mut c = Cursor { at: 0 };
     let mut v = w;
-    loop {
-        let f = boxes::next(s, c);
-        match f {
-            Step::End => return Walked::Upto(v),
-            Step::Bad => return Walked::Malformed,
-            Step::Found {
-                kind,
-                start,
-                end,
-                next: n,
-            } => {
-                c = n;
-                if kind == TRUN {
-                    let b = &s[start..end];
-                    let q = walk_body(of, d, b, v, write, list);
-                    match q {
-                        Walked::Malformed => return Walked::Malformed,
-                        Walked::Upto(u) => v = u,
-                    }
-                }
-            }
+    for part in BoxReader::new(s) {
+        let part = part?;
+        if part.kind == TRUN {
+            v = walk_body(of, d, part.body, v, write, list)?;
         }
     }
+    Ok(v)
 }
 
 // The walk at a fragment's decode time.
-fn begun(w: Walk, time: u64) -> Walk
-    ensures { result ≡ begun_at w time }
+fn begun(w: Option<Walk>, time: u64) -> Option<Walk>
+    ensures { known result ≡ begun_at (known w) time }
 {
-    if w.good {
-        return Walk {
-            good: true,
-            over: w.over,
-            count: w.count,
-            time,
-        };
-    }
-    w
+    let w = w?;
+    Some(Walk { time, ..w })
 }
 
 // The header and the decode time of a fragment, each of which there is once and before every run.
-fn header_in(d: Defaults, s: &[u8]) -> ReadHeader
+fn header_in(d: Defaults, s: &[u8]) -> Result<Header, Malformed>
     ensures { result ≡ header_in d (lone_in tfhd_kind trun_kind (boxes_of s.now)) }
 {
-    match boxes::lone(s, TFHD, TRUN) {
-        Part::None => ReadHeader::Bad,
-        Part::Is { start, end } => fragments::header_of(d, &s[start..end]),
-    }
+    fragments::header_of(d, boxes::lone(s, TFHD, TRUN)?)
 }
 
-fn time_in(s: &[u8]) -> ReadTime
+fn time_in(s: &[u8]) -> Result<u64, Malformed>
     ensures { result ≡ time_in (lone_in tfdt_kind trun_kind (boxes_of s.now)) }
 {
-    match boxes::lone(s, TFDT, TRUN) {
-        Part::None => ReadTime::Bad,
-        Part::Is { start, end } => fragments::time_of(&s[start..end]),
-    }
+    fragments::time_of(boxes::lone(s, TFDT, TRUN)?)
 }
 
 // A fragment of the track that is read.
@@ -337,89 +286,79 @@ fn walk_own(
     of: SegmentTrack,
     d: Defaults,
     s: &[u8],
-    w: Walk,
+    w: Option<Walk>,
     write: bool,
     list: &mut [[i64; 6]],
-) -> Walked
-    requires { Somewhere of write w list.old }
-    ensures { Reaches of write w list.old (runs_by d s.now (time_in (lone_in tfdt_kind trun_kind (boxes_of s.now)))) result list.new }
+) -> Result<Option<Walk>, Malformed>
+    requires { Somewhere of write (known w) list.old }
+    ensures { Reaches of write (known w) list.old (runs_by d s.now (time_in (lone_in tfdt_kind trun_kind (boxes_of s.now)))) result list.new }
 {
-    match time_in(s) {
-        ReadTime::Bad => Walked::Malformed,
-        ReadTime::At(t) => {
-            let v = begun(w, t);
-            walk_runs(of, d, s, t, v, write, list)
-        }
-    }
+    let t = time_in(s)?;
+    walk_runs(of, d, s, t, begun(w, t), write, list)
 }
 
 // Any track's fragment: another's is read for its header only.
-fn walk_fragment(of: SegmentTrack, s: &[u8], w: Walk, write: bool, list: &mut [[i64; 6]]) -> Walked
-    requires { Somewhere of write w list.old }
-    ensures { Reaches of write w list.old (fragment_listing of s.now) result list.new }
+fn walk_fragment(
+    of: SegmentTrack,
+    s: &[u8],
+    w: Option<Walk>,
+    write: bool,
+    list: &mut [[i64; 6]],
+) -> Result<Option<Walk>, Malformed>
+    requires { Somewhere of write (known w) list.old }
+    ensures { Reaches of write (known w) list.old (fragment_listing of s.now) result list.new }
 {
-    let defaults = of.defaults;
-    match header_in(defaults, s) {
-        ReadHeader::Bad => Walked::Malformed,
-        ReadHeader::Is(h) => {
-            if h.id != of.id {
-                return Walked::Upto(w);
-            }
-            let d = h.defaults;
-            walk_own(of, d, s, w, write, list)
-        }
+    let h = header_in(of.defaults, s)?;
+    if h.id != of.id {
+        return Ok(w);
     }
+    walk_own(of, h.defaults, s, w, write, list)
 }
 
 // ---- the movie fragment
 
 // The track fragments of a movie fragment.
-fn walk_movie(of: SegmentTrack, s: &[u8], w: Walk, write: bool, list: &mut [[i64; 6]]) -> Walked
-    requires { Somewhere of write w list.old }
-    ensures { Reaches of write w list.old (movie_listing of s.now) result list.new }
+fn walk_movie(
+    of: SegmentTrack,
+    s: &[u8],
+    w: Option<Walk>,
+    write: bool,
+    list: &mut [[i64; 6]],
+) -> Result<Option<Walk>, Malformed>
+    requires { Somewhere of write (known w) list.old }
+    ensures { Reaches of write (known w) list.old (movie_listing of s.now) result list.new }
 {
-    let mut c = Cursor { at: 0 };
     let mut v = w;
-    loop {
-        let f = boxes::next(s, c);
-        match f {
-            Step::End => return Walked::Upto(v),
-            Step::Bad => return Walked::Malformed,
-            Step::Found {
-                kind,
-                start,
-                end,
-                next: n,
-            } => {
-                c = n;
-                if kind == TRAF {
-                    let b = &s[start..end];
-                    let q = walk_fragment(of, b, v, write, list);
-                    match q {
-                        Walked::Malformed => return Walked::Malformed,
-                        Walked::Upto(u) => v = u,
-                    }
-                }
-            }
+    for part in BoxReader::new(s) {
+        let part = part?;
+        if part.kind == TRAF {
+            v = walk_fragment(of, part.body, v, write, list)?;
         }
     }
+    Ok(v)
 }
 
 // A walk that has seen no sample yet.
-fn started(scale: u32) -> Walk
-    ensures { result ≡ started_at scale }
+fn started(scale: u32) -> Option<Walk>
+    ensures { known result ≡ started_at scale }
 {
-    let good = media_times::good_scale(scale);
-    Walk {
-        good,
+    if !media_times::good_scale(scale) {
+        return None;
+    }
+    Some(Walk {
         over: false,
         count: 0,
         time: 0,
-    }
+    })
 }
 
 // A walk over a movie fragment, from its start.
-fn walk_whole(of: SegmentTrack, b: &[u8], write: bool, list: &mut [[i64; 6]]) -> Walked
+fn walk_whole(
+    of: SegmentTrack,
+    b: &[u8],
+    write: bool,
+    list: &mut [[i64; 6]],
+) -> Result<Option<Walk>, Malformed>
     ensures { Reached of write list.old [] (movie_listing of b.now) result list.new }
 {
     let w = started(of.timescale);
@@ -427,52 +366,58 @@ fn walk_whole(of: SegmentTrack, b: &[u8], write: bool, list: &mut [[i64; 6]]) ->
 }
 
 // The rows, where the walk that judged the movie fragment found nothing to refuse.
-fn listed(of: SegmentTrack, b: &[u8], w: Walk, list: &mut [[i64; 6]]) -> Count
-    requires { Reached of false list.old [] (movie_listing of b.now) (Upto w) list.old }
+fn listed(
+    of: SegmentTrack,
+    b: &[u8],
+    w: Option<Walk>,
+    list: &mut [[i64; 6]],
+) -> Result<usize, Refusal>
+    requires { Reached of false list.old [] (movie_listing of b.now) (Ok w) list.old }
     ensures value { result ≡ row_count (list_movie of (length list.old) b.now) }
     ensures list_after { list.new ≡ rows_after (list_movie of (length list.old) b.now) list.old }
 {
-    if !w.good {
-        return Count::Refused(Refusal::FrameLimits);
-    }
+    let Some(w) = w else {
+        return Err(Refusal::FrameLimits);
+    };
     if w.over {
-        return Count::Refused(Refusal::ShortList);
+        return Err(Refusal::ShortList);
     }
-    walk_whole(of, b, true, list);
-    Count::Done(w.count)
+    // What was judged is written whole.
+    let _ = walk_whole(of, b, true, list);
+    Ok(w.count)
 }
 
 // The frames of a track in a movie fragment, of which the body is lent.
-pub fn list_movie(of: SegmentTrack, b: &[u8], list: &mut [[i64; 6]]) -> Count
+pub fn list_movie(of: SegmentTrack, b: &[u8], list: &mut [[i64; 6]]) -> Result<usize, Refusal>
     ensures value { result ≡ row_count (list_movie of (length list.old) b.now) }
     ensures list_after { list.new ≡ rows_after (list_movie of (length list.old) b.now) list.old }
 {
-    match walk_whole(of, b, false, list) {
-        Walked::Malformed => Count::Refused(Refusal::Malformed),
-        Walked::Upto(w) => listed(of, b, w, list),
-    }
+    let w = walk_whole(of, b, false, list)?;
+    listed(of, b, w, list)
 }
 
 // ---- the segment
 
 // The frames of a track in the segment's one movie fragment.
-fn list_whole(of: SegmentTrack, s: &[u8], list: &mut [[i64; 6]]) -> Count
+fn list_whole(of: SegmentTrack, s: &[u8], list: &mut [[i64; 6]]) -> Result<usize, Refusal>
     ensures value { result ≡ row_count (list_segment of (length list.old) s.now) }
     ensures list_after { list.new ≡ rows_after (list_segment of (length list.old) s.now) list.old }
 {
-    match boxes::lone(s, MOOF, MOOF) {
-        Part::None => Count::Refused(Refusal::Malformed),
-        Part::Is { start, end } => list_movie(of, &s[start..end], list),
-    }
+    list_movie(of, boxes::lone(s, MOOF, MOOF)?, list)
 }
 
 // The frames of a track in what stands from a place of the slice on. A place past the end has no movie fragment.
-pub fn list_from(of: SegmentTrack, s: &[u8], at: usize, list: &mut [[i64; 6]]) -> Count
+pub fn list_from(
+    of: SegmentTrack,
+    s: &[u8],
+    at: usize,
+    list: &mut [[i64; 6]],
+) -> Result<usize, Refusal>
     ensures value { result ≡ row_count (list_segment of (length list.old) (drop at s.now)) }
     ensures list_after { list.new ≡ rows_after (list_segment of (length list.old) (drop at s.now)) list.old }
 {
-    if s.len() < at {
-        return Count::Refused(Refusal::Malformed);
-    }
-    list_whole(of, &s[at..], list)
+    let Some(rest) = s.get(at..) else {
+        return Err(Refusal::Malformed);
+    };
+    list_whole(of, rest, list)
 }

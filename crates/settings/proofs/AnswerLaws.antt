@@ -1,6 +1,9 @@
--- A call on a head and two arrays: refused 1 where they are not well-formed, and else the head of what it does on the buffer; what is not
--- changed stays.
-use mathlib.Core.Path.{◌≡◌, refl, sym, ap, ◌∙◌}
+-- A call on a head and two arrays by its result: what it answers and the head that it leaves, which is that of the buffer that its
+-- definition gives; what is not changed stays.
+use Rattle.std.specs.Prelude.{Option, Some, None, Result, Ok, Err}
+use Rattle.std.specs.Option.{is_none, unwrap_or}
+use Rattle.std.specs.Result.{is_ok}
+use mathlib.Core.Path.{◌≡◌, refl, sym, ap, ap₂, ◌∙◌}
 use mathlib.Core.Bool.{Bool, true, false, cond, not, ◌||◌}
 use mathlib.Core.List.{List, map, ◌++◌}
 use Prim.Native.Nat.{ℕ, ◌-◌, ◌≤◌}
@@ -9,37 +12,84 @@ use lib.Ieee.{Float}
 use lib.Signed.{lt_z}
 use lib.ListN.{length, take, drop, replicate, length-map}
 use lib.Seq.{drop_at}
-use Rattle.seconds.specs.Seconds.{Bound, unbounded, at, is_convertible, is_convertible_end, micros_of, bound_of, micros_answer, end_place, end_answer}
-use Rattle.seconds.specs.declared.Micros.TheVariants as Micros
-use Rattle.seconds.specs.declared.EndMicros.TheVariants as End
+use Rattle.laws.proofs.BoolLaws.{clash, and_left}
+use Rattle.seconds.specs.declared.OutOfRange.{OutOfRange}
+use Rattle.seconds.specs.Seconds.{Bound, unbounded, at, is_convertible, is_convertible_end, micros_of, bound_of, end_place, end_answer}
 use Rattle.buffer_state.specs.Remove.{before_bound}
 use Rattle.buffer_state.specs.declared.Group.{Group}
 use Rattle.buffer_state.specs.declared.Head.{Head}
 use Rattle.buffer_state.specs.declared.Mode.{Mode}
 use Rattle.buffer_state.specs.declared.Mode.TheVariants.{Segments, Sequence}
-use Rattle.buffer_state.specs.declared.Refusal.TheVariants.{IllFormed, Seconds, Order}
+use Rattle.buffer_state.specs.declared.Refusal.{Refusal}
+use Rattle.buffer_state.specs.declared.Refusal.TheVariants.{Order}
+use Rattle.buffer_state.specs.declared.Setting.{Setting}
 use Rattle.buffer_state.specs.declared.Settings.{Settings}
 use Rattle.buffer_state.specs.declared.Track.{Track}
-use Rattle.buffer_state.specs.declared.WindowEnd.{WindowEnd}
 use Rattle.buffer_state.specs.declared.WindowEnd.TheVariants.{Unbounded, At}
-use Rattle.buffer_state.specs.Answers.{changed, read_with, read, settings_answer}
-use Rattle.buffer_state.specs.declared.Read.TheVariants as Read
+use Rattle.buffer_state.specs.Answers.{set_answer, head_set}
 use Rattle.buffer_state.specs.Buffer.{Buffer, with_group, with_settings, zero_track, restarted_track, with_need, is_sequence, start_at_end, next_group}
 use Rattle.buffer_state.specs.Layout.{padded_list, buffer_of, laid_out, well_formed}
-use Rattle.buffer_state.specs.Lent.{state_at, head_of, well_formed_at, on_lent}
-use Rattle.buffer_state.specs.Refusals.{CallResult, refused, done, refuse_if}
+use Rattle.buffer_state.specs.Lent.{state_at, head_of, well_formed_at}
+use Rattle.buffer_state.specs.Refusals.{CallResult}
 use Rattle.buffer_laws.proofs.LayoutLaws.{laid_out_lem}
-use Rattle.buffer_laws.proofs.LentLaws.{lent-whole, lent_back, ill-formed-refused, on-well_formed}
-use Rattle.buffer_state.specs.Settings.{aborted_buffer, mode_set, offset_set, window_end, window_start_set, end_at, limit_at, window_end_set, reading}
-use Rattle.laws.proofs.BoolLaws.{and_left}
-use Rattle.settings.specs.Windows.{open_window, accepted_change, resettled_head, offset_by, start_by, with_end, end_by}
+use Rattle.buffer_laws.proofs.LentLaws.{lent-whole, lent_back}
+use Rattle.buffer_state.specs.Settings.{aborted_buffer, mode_set, given, offset_set, window_end, window_start_set, window_end_set}
+use Rattle.settings.specs.Windows.{setting_answer, open_window, group_from}
 
-module _ (call : Buffer → CallResult Buffer) (h : Head) (ts : List (List ℤ)) (gs : List (List ℕ)) where
-  pub refusing : well_formed_at h ts gs ≡ false → changed h (on_lent call h ts gs) ≡ changed h (refused IllFormed)
-  refusing w = ap (changed h) (ill-formed-refused call h ts gs w)
+-- ---- a result known: the answer, and the head after the call
 
-  pub going_on : well_formed_at h ts gs ≡ true → changed h (on_lent call h ts gs) ≡ changed h (call (buffer_of (state_at h ts gs)))
-  going_on w = ap (changed h) (on-well_formed call h ts gs w)
+module _ (x : CallResult Buffer) (h : Head) where
+  abbrev pub IsSet : Result (Unit {0}) Refusal → Head → Type 0
+  IsSet r new = (r ≡ set_answer x) × (new ≡ head_set x h)
+
+  pub not-set : {why : Refusal} {r : Result (Unit {0}) Refusal} → x ≡ Err why → r ≡ Err why → IsSet r h
+  not-set e d = (d ∙ ap set_answer (sym e), ap (λ (y : CallResult Buffer). head_set y h) (sym e))
+
+  pub is-set : (b : Buffer) {new : Head} → x ≡ Ok b → new ≡ head_of b → IsSet (Ok tt) new
+  is-set b e d = (ap set_answer (sym e), d ∙ ap (λ (y : CallResult Buffer). head_set y h) (sym e))
+
+-- ---- what a conversion's answer says
+
+converted : {A : Type 0} (t : Bool) (x y : A) {why : OutOfRange} → cond t (Ok x) (Err why) ≡ Ok y → (t ≡ true) × (y ≡ x)
+converted {A} true x y e = (refl, sym (ap value e))
+  where
+    value : Result A OutOfRange → A
+    value (Ok z) = z
+    value (Err why) = x
+converted false x y e = clash (sym (ap is_ok e))
+
+not-converted : {A : Type 0} (t : Bool) (x : A) {r why : OutOfRange} → cond t (Ok x) (Err r) ≡ Err why → t ≡ false
+not-converted true x e = clash (ap is_ok e)
+not-converted false x e = refl
+
+pub setting-given : (x : Float) {s : Setting} → setting_answer x ≡ Ok s → (is_convertible x ≡ true) × (s ≡ given x)
+setting-given x {s} e = converted (is_convertible x) (given x) s e
+
+pub setting-refused : (x : Float) {why : OutOfRange} → setting_answer x ≡ Err why → is_convertible x ≡ false
+setting-refused x e = not-converted (is_convertible x) (given x) e
+
+pub end-refused : (x : Float) {why : OutOfRange} → end_answer x ≡ Err why → is_convertible_end x ≡ false
+end-refused x e = not-converted (is_convertible_end x) (end_place (bound_of x)) e
+
+no-place : (q : Bound) → None ≡ end_place q → q ≡ unbounded
+no-place unbounded e = refl
+no-place (at z) e = clash (ap is_none e)
+
+a-place : (q : Bound) (z : ℤ) → Some z ≡ end_place q → q ≡ at z
+a-place unbounded z e = clash (sym (ap is_none e))
+a-place (at y) z e = ap at (sym (ap (λ (p : Option ℤ). unwrap_or p y) e))
+
+pub end-nowhere : (x : Float) {p : Option ℤ} → end_answer x ≡ Ok p → p ≡ None → (is_convertible_end x ≡ true) × (bound_of x ≡ unbounded)
+end-nowhere x {p} e d =
+    let c = converted (is_convertible_end x) (end_place (bound_of x)) p e in
+    (c.0, no-place (bound_of x) (sym d ∙ c.1))
+
+pub end-at : (x : Float) {p : Option ℤ} (z : ℤ) → end_answer x ≡ Ok p → p ≡ Some z → (is_convertible_end x ≡ true) × (bound_of x ≡ at z)
+end-at x {p} z e d =
+    let c = converted (is_convertible_end x) (end_place (bound_of x)) p e in
+    (c.0, a-place (bound_of x) z (sym d ∙ c.1))
+
+-- ---- the calls on a well-formed state
 
 -- whether a group is numbered before or after it is made to start at its end
 next-after : (q : Bool) (g : Group) → cond q (start_at_end (next_group g)) (next_group g) ≡ next_group (cond q (start_at_end g) g)
@@ -104,59 +154,52 @@ module _ (h : Head) (ts : List (List ℤ)) (gs : List (List ℕ)) (w : well_form
         settings = r i;
       }
 
-  -- Each setter, by what the conversion answers.
-  pub offset_by_lem : (x : Float) → changed h (offset_set x b) ≡ offset_by h x (micros_answer x)
+  -- Each setter that a conversion allows.
+  abbrev resettled : Group → Settings → Head
+  resettled g t = record { tracks = h.tracks; ntracks = h.ntracks; nframes = h.nframes; mode = h.mode; group = g; last = h.last; settings = t }
+
+  pub offset_taken : (x : Float) {r : CallResult Buffer} → r ≡ offset_set x b → {s : Setting} → (is_convertible x ≡ true) × (s ≡ given x) → {g : Group} → g ≡ group_from h.mode h.group s.micros
+      → IsSet r h (Ok tt) (resettled g (record { offset = s; start = h.settings.start; end = h.settings.end; limit = h.settings.limit }))
   unfolding offset_set
-  offset_by_lem x = go (is_convertible x)
+  offset_taken x {r} e {s} c {g} d = is-set r h _ (e ∙ rw c.0) (ap₂ resettled (rw c.1 at d) (ap t c.1) ∙ laid (is_sequence h.mode))
     where
-      z : ℤ
-      z = micros_of x
+      t : Setting → Settings
+      t o = record { offset = o; start = h.settings.start; end = h.settings.end; limit = h.settings.limit }
 
-      t : Settings
-      t = record { offset = record { seconds = x; micros = z }; start = h.settings.start; end = h.settings.end; limit = h.settings.limit }
+      from : Group
+      from = record { begun = true; start = micros_of x; end = h.group.end; number = h.group.number }
 
-      laid : (q : Bool) → head_of (cond q (with_group (with_settings b t) (record { begun = true; start = z; end = h.group.end; number = h.group.number })) (with_settings b t))
-          ≡ resettled_head h (cond q (record { begun = true; start = z; end = h.group.end; number = h.group.number }) h.group) t
-      laid true = sym (kept-head h.mode (record { begun = true; start = z; end = h.group.end; number = h.group.number }) t)
-      laid false = sym (kept-head h.mode h.group t)
+      laid : (q : Bool) → resettled (cond q from h.group) (t (given x)) ≡ head_of (cond q (with_group (with_settings b (t (given x))) from) (with_settings b (t (given x))))
+      laid true = kept-head h.mode from (t (given x))
+      laid false = kept-head h.mode h.group (t (given x))
 
-      go : (c : Bool) → changed h (refuse_if (not c) Seconds (done (cond (is_sequence h.mode) (with_group (with_settings b t) (record { begun = true; start = z; end = h.group.end; number = h.group.number })) (with_settings b t))))
-          ≡ offset_by h x (cond c (Micros.At z) Micros.Refused)
-      go true = ap accepted_change (laid (is_sequence h.mode))
-      go false = refl
-
-  pub start_by_lem : (x : Float) → changed h (window_start_set x b) ≡ start_by h x (micros_answer x)
+  pub start_taken : (x : Float) {r : CallResult Buffer} → r ≡ window_start_set x b → {s : Setting} → (is_convertible x ≡ true) × (s ≡ given x)
+      → lt_z s.micros (pos 0) ≡ false → before_bound s.micros (window_end h.settings) ≡ true
+      → IsSet r h (Ok tt) (resettled h.group (record { offset = h.settings.offset; start = s; end = h.settings.end; limit = h.settings.limit }))
   unfolding window_start_set
-  start_by_lem x = go (is_convertible x)
-    where
-      t : Settings
-      t = record { offset = h.settings.offset; start = record { seconds = x; micros = micros_of x }; end = h.settings.end; limit = h.settings.limit }
+  start_taken x {r} e {s} c low high =
+      is-set r h _ (e ∙ rw (c.0, rw c.1 at low, rw c.1 at high))
+      (ap (λ (o : Setting). resettled h.group (record { offset = h.settings.offset; start = o; end = h.settings.end; limit = h.settings.limit })) c.1 ∙ kept-head h.mode h.group _)
 
-      ordered : (d : Bool) → changed h (refuse_if d Order (done (with_settings b t))) ≡ cond d (changed h (refused Order)) (accepted_change (resettled_head h h.group t))
-      ordered true = refl
-      ordered false = ap accepted_change (sym (kept-head h.mode h.group t))
+  pub start_under : (x : Float) {r : CallResult Buffer} → r ≡ window_start_set x b → {s : Setting} → (is_convertible x ≡ true) × (s ≡ given x)
+      → (lt_z s.micros (pos 0) || not (before_bound s.micros (window_end h.settings))) ≡ true → IsSet r h (Err Order) h
+  unfolding window_start_set
+  start_under x {r} e c out = not-set r h (e ∙ rw (c.0, rw c.1 at out)) refl
 
-      go : (c : Bool) → changed h (refuse_if (not c) Seconds (refuse_if (lt_z (micros_of x) (pos 0) || not (before_bound (micros_of x) (window_end h.settings))) Order (done (with_settings b t))))
-          ≡ start_by h x (cond c (Micros.At (micros_of x)) Micros.Refused)
-      go true = ordered (lt_z (micros_of x) (pos 0) || not (before_bound (micros_of x) (window_end h.settings)))
-      go false = refl
-
-  pub end_by_lem : (x : Float) → changed h (window_end_set x b) ≡ end_by h x (end_answer x)
+  pub end_unset : (x : Float) {r : CallResult Buffer} → r ≡ window_end_set x b → (is_convertible_end x ≡ true) × (bound_of x ≡ unbounded)
+      → IsSet r h (Ok tt) (resettled h.group (record { offset = h.settings.offset; start = h.settings.start; end = Unbounded; limit = pos 0 }))
   unfolding window_end_set
-  end_by_lem x = go (is_convertible_end x) (bound_of x)
-    where
-      t : WindowEnd → ℤ → Settings
-      t end limit = record { offset = h.settings.offset; start = h.settings.start; end = end; limit = limit }
+  end_unset x {r} e c = is-set r h _ (e ∙ rw (c.0, c.1)) (kept-head h.mode h.group _)
 
-      ordered : (d : Bool) (z : ℤ) → changed h (refuse_if (not d) Order (done (with_settings b (t (At x) z)))) ≡ cond d (accepted_change (with_end h (At x) z)) (changed h (refused Order))
-      ordered true z = ap accepted_change (sym (kept-head h.mode h.group (t (At x) z)))
-      ordered false z = refl
+  pub end_taken : (x : Float) (z : ℤ) {r : CallResult Buffer} → r ≡ window_end_set x b → (is_convertible_end x ≡ true) × (bound_of x ≡ at z) → lt_z h.settings.start.micros z ≡ true
+      → IsSet r h (Ok tt) (resettled h.group (record { offset = h.settings.offset; start = h.settings.start; end = At x; limit = z }))
+  unfolding window_end_set
+  end_taken x z {r} e c above = is-set r h _ (e ∙ rw (c.0, c.1, above)) (kept-head h.mode h.group _)
 
-      go : (c : Bool) (q : Bound) → changed h (refuse_if (not c) Seconds (refuse_if (not (before_bound h.settings.start.micros q)) Order (done (with_settings b (t (end_at x q) (limit_at q))))))
-          ≡ end_by h x (cond c (end_place q) End.Refused)
-      go true unbounded = ap accepted_change (sym (kept-head h.mode h.group (t Unbounded (pos 0))))
-      go true (at z) = ordered (lt_z h.settings.start.micros z) z
-      go false q = refl
+  pub end_under : (x : Float) (z : ℤ) {r : CallResult Buffer} → r ≡ window_end_set x b → (is_convertible_end x ≡ true) × (bound_of x ≡ at z) → lt_z h.settings.start.micros z ≡ false
+      → IsSet r h (Err Order) h
+  unfolding window_end_set
+  end_under x z {r} e c under = not-set r h (e ∙ rw (c.0, c.1, under)) refl
 
   -- Setting the mode.
   pub mode_set_lem : (m : Mode) (g : Group) → g ≡ cond (is_sequence m) (start_at_end h.group) h.group
@@ -164,13 +207,3 @@ module _ (h : Head) (ts : List (List ℤ)) (gs : List (List ℕ)) (w : well_form
   unfolding mode_set
   mode_set_lem Segments g e = rw e (kept-head Segments h.group h.settings)
   mode_set_lem Sequence g e = rw e (kept-head Sequence (start_at_end h.group) h.settings)
-
--- reading the settings
-module _ (h : Head) (ts : List (List ℤ)) (gs : List (List ℕ)) where
-  pub reading-refused : well_formed_at h ts gs ≡ false → settings_answer h ts gs ≡ Read.Refused IllFormed
-  unfolding settings_answer
-  reading-refused w = ap read (ill-formed-refused (λ (b : Buffer). done (reading b)) h ts gs w)
-
-  pub read_by : well_formed_at h ts gs ≡ true → settings_answer h ts gs ≡ read_with h.settings.offset.seconds h.settings.start.seconds h.settings.end
-  unfolding settings_answer
-  read_by w = ap read (on-well_formed (λ (b : Buffer). done (reading b)) h ts gs w)

@@ -1,27 +1,29 @@
 -- Creation: the tracks of the kinds, one at a time, what the tests of the kinds lead to, and the arrays cleared.
+use Rattle.std.specs.Prelude.{Result, Ok, Err}
+use Rattle.std.specs.List.{list_all}
 use mathlib.Core.Path.{◌≡◌, refl, sym, ap, ◌∙◌}
-use mathlib.Core.Bool.{Bool, true, false, not, ◌||◌}
-use mathlib.Core.List.{List, [], ◌∷◌, ◌++◌, map, map-append, append_assoc, append-nil}
+use mathlib.Core.Bool.{Bool, true, false, not, ◌&&◌, ◌||◌}
+use mathlib.Core.List.{List, [], ◌∷◌, ◌++◌, map, map-append, append_assoc}
 use Prim.Native.Nat.{ℕ, zero, suc, ◌+◌, ◌-◌, ◌≤◌, ◌<◌}
 use native.Mathlib.Numerals.{add-one}
 use native.Mathlib.Omega.{arith}
 use lib.Dec.{ltb, eqb}
 use lib.IntN.{ℤ}
-use lib.ListN.{length, take, get_or, set, replicate, length-append, length-map, length-take, drop_of_length-le}
+use lib.ListN.{length, take, get_or, set, replicate, length-append, length-map, length-take}
 use lib.Seq.{set_at, take-suc}
 use borrow.Author.Tests.{eq-eqb, ne_eqb, lt-ltb, le-ltb}
-use Rattle.buffer_state.specs.declared.Changed.{Changed}
+use Rattle.buffer_state.specs.declared.Head.{Head}
+use Rattle.buffer_state.specs.declared.Refusal.{Refusal}
 use Rattle.buffer_state.specs.declared.Refusal.TheVariants.{Kinds}
 use Rattle.buffer_state.specs.declared.Track.{Track}
-use Rattle.buffer_state.specs.Answers.{changed, zero_head, create_answer, times_created, tags_created}
+use Rattle.buffer_state.specs.Answers.{created, times_created, tags_created}
 use Rattle.buffer_state.specs.Buffer.{Buffer, zero_track, fresh_track, fresh}
 use Rattle.buffer_state.specs.Layout.{zero_frame, padded_list}
 use Rattle.buffer_state.specs.Lent.{time_of, tag_of, times_of, tags_of, head_of, times_in, tags_in}
 use Rattle.buffer_state.specs.Limits.{places, known_kind}
-use Rattle.buffer_state.specs.Refusals.{CallResult, refused, done}
+use Rattle.buffer_state.specs.Refusals.{CallResult}
 use Rattle.buffer_state.specs.Settings.{create}
 use Rattle.buffer_state.specs.WellFormed.{all_of}
-use Rattle.places.specs.Places.{cleared_places}
 use Rattle.settings.specs.Windows.{fresh_head}
 
 padded-more : {A : Type 0} (n : ℕ) (z : A) (l : List A) (x : A) → length l < n → set (padded_list n z l) (length l) x ≡ padded_list n z (l ++ (x ∷ []))
@@ -41,24 +43,29 @@ track-more kinds out i t h few e d =
 
 -- ---- the result
 
+pub all-listed : {A : Type 0} (p : A → Bool) (l : List A) → list_all p l ≡ all_of p l
+unfolding all_of
+all-listed p [] = refl
+all-listed p (x ∷ l) = ap (λ (t : Bool). p x && t) (all-listed p l)
+
 module _ (kinds : List ℕ) where
   refusing : (a b c : Bool) → eqb (length kinds) 0 ≡ a → ltb 4 (length kinds) ≡ b → all_of known_kind kinds ≡ c → (a || (b || not c)) ≡ true
-      → create kinds ≡ refused Kinds
+      → create kinds ≡ Err Kinds
   unfolding create
   refusing a b c p q r h = rw (p, q, r, h)
 
-  pub no-kinds : length kinds ≡ 0 → create kinds ≡ refused Kinds
+  pub no-kinds : length kinds ≡ 0 → create kinds ≡ Err Kinds
   no-kinds h = refusing true _ _ (eq-eqb _ _ h) refl refl refl
 
-  pub many-kinds : 4 < length kinds → create kinds ≡ refused Kinds
+  pub many-kinds : 4 < length kinds → create kinds ≡ Err Kinds
   many-kinds h = refusing false true _ (ne_eqb (length kinds) 0 (λ e. omega arith)) (lt-ltb _ _ h) refl refl
 
-  pub unknown-kind : (length kinds ≡ 0 → ⊥) → length kinds ≤ 4 → all_of known_kind kinds ≡ false → create kinds ≡ refused Kinds
+  pub unknown-kind : (length kinds ≡ 0 → ⊥) → length kinds ≤ 4 → all_of known_kind kinds ≡ false → create kinds ≡ Err Kinds
   unknown-kind n h k = refusing false false false (ne_eqb _ _ n) (le-ltb _ _ h) k refl
 
-  pub created : (length kinds ≡ 0 → ⊥) → length kinds ≤ 4 → all_of known_kind kinds ≡ true → create kinds ≡ done (fresh kinds)
+  pub taken : (length kinds ≡ 0 → ⊥) → length kinds ≤ 4 → all_of known_kind kinds ≡ true → create kinds ≡ Ok (fresh kinds)
   unfolding create
-  created n h k = rw (ne_eqb _ _ n, le-ltb 4 (length kinds) h, k)
+  taken n h k = rw (ne_eqb _ _ n, le-ltb 4 (length kinds) h, k)
 
   pub fresh-laid : (ts : List Track) (n : ℕ) → ts ≡ padded_list 4 zero_track (map fresh_track kinds) → n ≡ length kinds → fresh_head ts n ≡ head_of (fresh kinds)
   fresh-laid ts n e d = rw (e, d, length-map kinds fresh_track)
@@ -66,11 +73,10 @@ module _ (kinds : List ℕ) where
 -- ---- a result known: the answer, and what the arrays hold after it
 
 module _ (kinds : List ℕ) (ts : List (List ℤ)) (gs : List (List ℕ)) (x : CallResult Buffer) (d : create kinds ≡ x) where
-  pub creation : {r : Changed} {times : List (List ℤ)} {tags : List (List ℕ)} → r ≡ changed zero_head x → times ≡ times_created x ts → tags ≡ tags_created x gs
-      → (r ≡ create_answer kinds) × ((times ≡ times_created (create kinds) ts) × (tags ≡ tags_created (create kinds) gs))
-  unfolding create_answer
+  pub creation : {r : Result Head Refusal} {times : List (List ℤ)} {tags : List (List ℕ)} → r ≡ created x → times ≡ times_created x ts → tags ≡ tags_created x gs
+      → (r ≡ created (create kinds)) × ((times ≡ times_created (create kinds) ts) × (tags ≡ tags_created (create kinds) gs))
   creation a b c = (
-    a ∙ ap (changed zero_head) (sym d),
+    a ∙ ap created (sym d),
     (b ∙ ap (λ (y : CallResult Buffer). times_created y ts) (sym d), c ∙ ap (λ (y : CallResult Buffer). tags_created y gs) (sym d)),
   )
 
@@ -80,14 +86,11 @@ map-replicate : {A B : Type 0} (f : A → B) (z : A) (n : ℕ) → map f (replic
 map-replicate f z zero = refl
 map-replicate {B = B} f z (suc n) = ap (λ (l : List B). f z ∷ l) (map-replicate f z n)
 
-blank : {A B : Type 0} (f : A → B) (z : A) (n : ℕ) (l : List B) → length l ≡ n → cleared_places (f z) 0 n l ≡ map f (padded_list n z [])
-blank f z n l e = rw (drop_of_length-le l {i = n} (omega arith), append-nil (replicate (n - 0) (f z))) (sym (map-replicate f z (n - 0)))
-
 module _ (kinds : List ℕ) where
-  pub blank-times : (ts : List (List ℤ)) → length ts ≡ places → cleared_places (time_of zero_frame) 0 places ts ≡ times_in (fresh kinds)
+  pub blank-times : (n : ℕ) → n ≡ places → replicate n (time_of zero_frame) ≡ times_in (fresh kinds)
   unfolding times_of
-  blank-times ts e = blank time_of zero_frame places ts e
+  blank-times n e = ap (λ (m : ℕ). replicate m (time_of zero_frame)) e ∙ sym (map-replicate time_of zero_frame places)
 
-  pub blank-tags : (gs : List (List ℕ)) → length gs ≡ places → cleared_places (tag_of zero_frame) 0 places gs ≡ tags_in (fresh kinds)
+  pub blank-tags : (n : ℕ) → n ≡ places → replicate n (tag_of zero_frame) ≡ tags_in (fresh kinds)
   unfolding tags_of
-  blank-tags gs e = blank tag_of zero_frame places gs e
+  blank-tags n e = ap (λ (m : ℕ). replicate m (tag_of zero_frame)) e ∙ sym (map-replicate tag_of zero_frame places)

@@ -1,46 +1,48 @@
--- What a slot holds beside its head, the head that a call is handed, and the slot in use.
-use Rattle.std.specs.Prelude.{Bool, true, cond, ◌&&◌, ◌||◌, [], ◌∷◌, ℕ, eqb, pos, get_or}
+-- What a slot holds beside its buffer, the head that a call is handed, and the slots of a session.
+use Rattle.std.specs.Prelude.{Bool, false, cond, ◌&&◌, List, [], ◌∷◌, ℕ, ℤ, get_or, Option, Some, None, is_none}
+use mathlib.Core.Bool.{beq}
+use Rattle.std.specs.List.{list_all}
 use Rattle.buffer_state.specs.declared.Head.{Head}
 use Rattle.buffer_state.specs.declared.Track.{Track}
 use Rattle.buffer_state.specs.Buffer.{zero_track}
 use Rattle.seconds.specs.Seconds.{zero_seconds, same_double}
+use Rattle.slots.specs.declared.Set.{Set}
 use Rattle.slots.specs.declared.Slot.{Slot}
 use Rattle.slots.specs.declared.Session.{Session}
 
--- which of a track's three values are set: all or none, a bit each
-abbrev pub set_of : Track → ℕ
-set_of t = cond t.known 7 0
+-- which of a track's three values are set: all or none
+abbrev pub set_of : Track → Set
+set_of t = record { decode = t.known; duration = t.known; end = t.known }
 
--- the slot of a head that a call gave
-abbrev pub slot_of : Head → Slot
-slot_of h = record {
-  held = true;
-  head = h;
-  sets = at 0 ∷ at 1 ∷ at 2 ∷ at 3 ∷ [];
-  spare = zero_seconds;
-  beyond = 0;
-  group = pos 0;
-}
+abbrev pub sets_of : Head → List Set
+sets_of h = at 0 ∷ at 1 ∷ at 2 ∷ at 3 ∷ []
   where
-    at : ℕ → ℕ
+    at : ℕ → Set
     at i = set_of (get_or h.tracks i zero_track)
 
--- none of a track's three values set, or all, a bit each
-abbrev pub together_of : ℕ → Bool
-together_of set = eqb set 0 || eqb set 7
+-- the slot of a head that a call gave, with its stored frames: nothing is beside them
+abbrev pub slot_of : Head → List (List ℤ) → List (List ℕ) → Slot
+slot_of h times tags = record {
+  head = h;
+  times = times;
+  tags = tags;
+  sets = sets_of h;
+  spare = zero_seconds;
+  beyond = None;
+}
+
+-- none of a track's three values set, or all
+abbrev pub together_of : Set → Bool
+together_of set = beq set.decode set.duration && beq set.duration set.end
 
 -- a head can hold what the slot holds beside it: on each track the three are set together, and the double kept beside an unbounded window
 -- end is plus zero
 abbrev pub head_holds : Slot → Bool
-head_holds slot =
-    together_of (get_or slot.sets 0 0)
-    && (together_of (get_or slot.sets 1 0)
-    && (together_of (get_or slot.sets 2 0)
-    && (together_of (get_or slot.sets 3 0) && same_double slot.spare zero_seconds)))
+head_holds slot = list_all together_of slot.sets && same_double slot.spare zero_seconds
 
 -- the head and the rows say all that the slot holds: no frame has a group beyond them either
 abbrev pub holds_all : Slot → Bool
-holds_all slot = eqb slot.beyond 0 && head_holds slot
+holds_all slot = is_none slot.beyond && head_holds slot
 
 -- a head of nine tracks, which is not well-formed
 abbrev pub overfull_head : Head → Head
@@ -58,15 +60,36 @@ overfull_head h = record {
 abbrev pub handed_of : Slot → Head
 handed_of slot = cond (holds_all slot) slot.head (overfull_head slot.head)
 
-abbrev pub used_of : Session → Slot
-used_of s = cond s.second_used s.second s.first
+-- no buffer yet, nothing saved, the first slot in use
+abbrev pub fresh_session : Session
+fresh_session = record { used = None; other = None; saved = None; second_used = false }
 
--- the session with another slot in use
-abbrev pub with_used : Session → Slot → Session
-with_used s slot = record {
-  first = cond s.second_used s.first slot;
-  second = cond s.second_used slot s.second;
+-- the buffers of the two slots, whichever is in use
+abbrev pub first_of : Session → Option Slot
+first_of s = cond s.second_used s.other s.used
+
+abbrev pub second_of : Session → Option Slot
+second_of s = cond s.second_used s.used s.other
+
+-- one, or where it is none the other
+abbrev pub first_some : Option Slot → Option Slot → Option Slot
+first_some (Some slot) other = Some slot
+first_some None other = other
+
+-- the session with the state of the slot in use saved, where there is one: its frames are the slot's, to the last place
+abbrev pub saved_of : Session → Session
+saved_of s = record {
+  used = s.used;
+  other = s.other;
+  saved = first_some s.used s.saved;
+  second_used = s.second_used;
+}
+
+-- the session with the state that was saved last in the slot in use, where there is one
+abbrev pub restored_of : Session → Session
+restored_of s = record {
+  used = first_some s.saved s.used;
+  other = s.other;
   saved = s.saved;
   second_used = s.second_used;
-  batch = s.batch;
 }

@@ -1,200 +1,175 @@
 #![tactic(auto)]
-// The two buffers of a session and its saved state: their heads, and what is gathered of a batch. The stores of the three and the rows of
-// the batch are lent beside them.
-ghost use Rattle.std.specs.Prelude.{◌≡◌, length};
-ghost use Rattle.slots.specs.Slots.{set_of, slot_of, together_of, head_holds, holds_all, handed_of, used_of, with_used};
+// The two buffers of a session and the state that it saved: each a head with its stored frames, and what pokes may leave beside them.
+ghost use Rattle.std.specs.Prelude.{◌≡◌, ◌↔◌, IsSome};
+ghost use Rattle.std.specs.List.{list_all};
+ghost use Rattle.slots.specs.Slots.{set_of, sets_of, slot_of, together_of, head_holds, holds_all, handed_of, fresh_session, first_of, second_of, saved_of, restored_of};
 
 use buffer_state::{Head, Tags, Times, Track};
+use std::mem;
 
-pub const ALL: u8 = 7; // the three values of a track, a bit each
+// Which of a track's last decode time, last duration and highest end are set.
+#[derive(Clone, Copy, Debug, PartialEq, Eq)]
+pub struct Set {
+    pub decode: bool,
+    pub duration: bool,
+    pub end: bool,
+}
 
-// A buffer's head, if there is one, and beside it what pokes may leave and neither a Head nor a row can hold: for each track which of its
-// three values are set, the double kept beside a window end that is unbounded, and a frame's group beyond 32 bits, with the frame's place
-// from 1 on, 0 where there is none.
-#[derive(Clone, Copy)]
-pub struct Slot {
-    pub held: bool,
-    pub head: Head,
-    pub sets: [u8; 4],
-    pub spare: f64,
-    pub beyond: usize,
+impl Set {
+    // A Track knows only all three or none.
+    pub fn of(track: Track) -> Self
+        ensures { result ≡ set_of track }
+    {
+        Set {
+            decode: track.known,
+            duration: track.known,
+            end: track.known,
+        }
+    }
+
+    pub fn together(self) -> bool
+        ensures { result ≡ together_of self }
+    {
+        self.decode == self.duration && self.duration == self.end
+    }
+}
+
+fn sets_of(head: Head) -> [Set; 4]
+    ensures { result ≡ sets_of head }
+{
+    let [a, b, c, d] = head.tracks;
+    [Set::of(a), Set::of(b), Set::of(c), Set::of(d)]
+}
+
+// A frame's group beyond 32 bits, and the frame's place, counted from 0.
+#[derive(Clone, Copy, Debug, PartialEq, Eq)]
+pub struct Beyond {
+    pub place: usize,
     pub group: i64,
 }
 
-// A batch, whose frames stand in the lines after it: the number of its own line, how many frames are still to come, how many rows are kept,
-// the fate lines that it is lent, and whether all of it could be read so far.
+// A buffer, and beside it what pokes may leave and neither a Head nor a row can hold: for each track which of its three values are set, the
+// double kept beside a window end that is unbounded, and one frame's group.
 #[derive(Clone, Copy)]
-pub struct Batch {
-    pub line: u64,
-    pub left: u32,
-    pub rows: usize,
-    pub lines: usize,
-    pub read: bool,
+pub struct Slot {
+    pub head: Head,
+    pub times: Times,
+    pub tags: Tags,
+    pub sets: [Set; 4],
+    pub spare: f64,
+    pub beyond: Option<Beyond>,
 }
 
+impl Slot {
+    // A buffer as calls leave it.
+    pub fn of(head: Head, times: Times, tags: Tags) -> Self
+        ensures { result ≡ slot_of head times tags }
+    {
+        Slot {
+            head,
+            times,
+            tags,
+            sets: sets_of(head),
+            spare: 0.0,
+            beyond: None,
+        }
+    }
+
+    fn sets_hold(&self) -> bool
+        ensures { result ≡ list_all together_of self.now.sets }
+    {
+        self.sets.iter().all(|set| set.together())
+    }
+
+    // Whether a head can hold what the slot holds beside it.
+    fn head_holds(&self) -> bool
+        ensures { result ≡ head_holds self.now }
+    {
+        self.sets_hold() && seconds::same_double(self.spare, 0.0)
+    }
+
+    // Whether the head and the rows say all that the slot holds.
+    fn holds(&self) -> bool
+        ensures { result ≡ holds_all self.now }
+    {
+        self.beyond.is_none() && self.head_holds()
+    }
+
+    // The head handed to a call. What they cannot hold is not well-formed, and no more is a head of nine tracks.
+    pub fn handed(&self) -> Head
+        ensures { result ≡ handed_of self.now }
+    {
+        if self.holds() {
+            self.head
+        } else {
+            Head {
+                ntracks: 9,
+                ..self.head
+            }
+        }
+    }
+
+    // The head that a call gave.
+    pub fn put_head(&mut self, head: Head)
+        ensures { self.new ≡ slot_of head self.old.times self.old.tags }
+    {
+        self.head = head;
+        self.sets = sets_of(head);
+        self.spare = 0.0;
+        self.beyond = None;
+    }
+}
+
+// The buffer of the slot in use, that of the other one, and the state that was saved last; none where there is none. At first the first
+// slot is in use.
 #[derive(Clone, Copy)]
 pub struct Session {
-    pub first: Slot,
-    pub second: Slot,
-    pub saved: Slot,
+    pub used: Option<Slot>,
+    pub other: Option<Slot>,
+    pub saved: Option<Slot>,
     pub second_used: bool,
-    pub batch: Batch,
 }
 
-fn set_of(t: Track) -> u8
-    ensures { result ≡ set_of t }
-{
-    if t.known {
-        return ALL;
+impl Session {
+    pub fn new() -> Self
+        ensures { result ≡ fresh_session }
+    {
+        Session {
+            used: None,
+            other: None,
+            saved: None,
+            second_used: false,
+        }
     }
-    0
-}
 
-// A head that a call gave.
-pub fn slot_of(head: Head) -> Slot
-    ensures { result ≡ slot_of head }
-{
-    let sets = [
-        set_of(head.tracks[0]),
-        set_of(head.tracks[1]),
-        set_of(head.tracks[2]),
-        set_of(head.tracks[3]),
-    ];
-    Slot {
-        held: true,
-        head,
-        sets,
-        spare: 0.0,
-        beyond: 0,
-        group: 0,
+    // The second slot is in use from here, or the first. What they hold stays.
+    pub fn use_slot(&mut self, second: bool)
+        ensures used { self.new.second_used ≡ second }
+        ensures first { first_of self.new ≡ first_of self.old }
+        ensures second { second_of self.new ≡ second_of self.old }
+        ensures saved { self.new.saved ≡ self.old.saved }
+    {
+        if self.second_used != second {
+            mem::swap(&mut self.used, &mut self.other);
+            self.second_used = second;
+        }
     }
-}
 
-// A slot without a buffer. What stands for its head is never handed to a call.
-fn empty() -> Slot {
-    let c = settings::no_head();
-    let head = c.head;
-    let mut s = slot_of(head);
-    s.held = false;
-    s
-}
-
-// No frames are to come.
-pub fn no_batch() -> Batch {
-    Batch {
-        line: 0,
-        left: 0,
-        rows: 0,
-        lines: 0,
-        read: true,
+    // The state of the slot in use is copied aside, frames and all, where there is one.
+    pub fn save(&mut self) -> Option<()>
+        ensures held { IsSome result ↔ IsSome self.old.used }
+        ensures session { self.new ≡ saved_of self.old }
+    {
+        self.saved = Some(self.used?);
+        Some(())
     }
-}
 
-pub fn fresh() -> Session {
-    let e = empty();
-    let batch = no_batch();
-    Session {
-        first: e,
-        second: e,
-        saved: e,
-        second_used: false,
-        batch,
+    // The state saved last goes into the slot in use, where there is one.
+    pub fn restore(&mut self) -> Option<()>
+        ensures held { IsSome result ↔ IsSome self.old.saved }
+        ensures session { self.new ≡ restored_of self.old }
+    {
+        self.used = Some(self.saved?);
+        Some(())
     }
-}
-
-fn together(set: u8) -> bool
-    ensures { result ≡ together_of set }
-{
-    if set == 0 {
-        return true;
-    }
-    set == ALL
-}
-
-// Whether a head can hold what the slot holds beside it.
-fn head_holds(slot: Slot) -> bool
-    ensures { result ≡ head_holds slot }
-{
-    if !together(slot.sets[0]) {
-        return false;
-    }
-    if !together(slot.sets[1]) {
-        return false;
-    }
-    if !together(slot.sets[2]) {
-        return false;
-    }
-    if !together(slot.sets[3]) {
-        return false;
-    }
-    seconds::same_double(slot.spare, 0.0)
-}
-
-// Whether the head and the rows say all that the slot holds.
-fn holds(slot: Slot) -> bool
-    ensures { result ≡ holds_all slot }
-{
-    if slot.beyond == 0 {
-        return head_holds(slot);
-    }
-    false
-}
-
-// The head handed to a call. What they cannot hold is not well-formed, and no more is a head of nine tracks.
-pub fn handed(slot: Slot) -> Head
-    ensures { result ≡ handed_of slot }
-{
-    let h = slot.head;
-    if holds(slot) {
-        return h;
-    }
-    Head { ntracks: 9, ..h }
-}
-
-// The slot in use.
-pub fn used(s: Session) -> Slot
-    ensures { result ≡ used_of s }
-{
-    if s.second_used {
-        return s.second;
-    }
-    s.first
-}
-
-pub fn with_used(s: Session, slot: Slot) -> Session
-    ensures { result ≡ with_used s slot }
-{
-    let mut t = s;
-    if t.second_used {
-        t.second = slot;
-    } else {
-        t.first = slot;
-    }
-    t
-}
-
-// ---- the stores
-
-fn copy_times(from: &[[i64; 2]], to: &mut [[i64; 2]])
-    requires { length from.now ≡ length to.old }
-    ensures { to.new ≡ from.now }
-{
-    let n = from.len();
-    places::copy_rows(from, n, to);
-}
-
-fn copy_tags(from: &[[u32; 5]], to: &mut [[u32; 5]])
-    requires { length from.now ≡ length to.old }
-    ensures { to.new ≡ from.now }
-{
-    to.copy_from_slice(from);
-}
-
-// A store saved or restored.
-pub fn copy_store(times: &Times, tags: &Tags, to_times: &mut Times, to_tags: &mut Tags)
-    ensures times { to_times.new ≡ times.now }
-    ensures tags { to_tags.new ≡ tags.now }
-{
-    copy_times(times, to_times);
-    copy_tags(tags, to_tags);
 }

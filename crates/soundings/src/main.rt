@@ -1,392 +1,346 @@
 #![tactic(auto)]
 // The worked cases of document 01, and of document 02, No. 4, S and X as buffer_state/specs/Soundings.antt names them, run by the compiled
 // calls; what is written is compared with the file stdout.
-// A line for each call: its answer, with the fate lines or the ranges that it wrote. One store is lent to all cases, and each creates its
+// A line for each call: its answer, with the fate lines or the ranges that it wrote. One store is used by all cases, and each creates its
 // buffers in it anew.
-ghost use Rattle.std.specs.Prelude.{◌≡◌, length};
-ghost use Rattle.buffer_state.specs.Limits.{places};
-
-use buffer_state::{
-    Answer, Changed, Count, Counted, Frame, Group, Head, Mode, Offered, PLACES, Refusal, Tags,
-    Times,
-};
+use buffer_state::{Group, Head, LAST_GROUP, Mode, Offered, PLACES, Refusal, Tags, Times};
+use std::io;
 use std::io::Write;
-use text::Output;
+use text::{Fates, Output, Ranges};
 
-// ---- what is written
-
-fn refused<W: Write>(why: Refusal, out: &mut Output<W>) {
-    text::put(b"refused ", out);
-    text::number(buffer_state::refusal_number(why) as u64, out);
-    text::put(b"\n", out);
-}
-
-fn lines<W: Write>(fates: &[[u32; 2]], n: usize, out: &mut Output<W>) {
-    text::fates(fates, n, out);
-    text::put(b"\n", out);
-}
-
-fn ranges_of<W: Write>(list: &[[i64; 2]], n: usize, out: &mut Output<W>) {
-    text::ranges(list, n, out);
-    text::put(b"\n", out);
-}
-
-// A stored frame: its number, when it is shown, when it is decoded.
-fn frame<W: Write>(f: Frame, out: &mut Output<W>) {
-    text::put(b" ", out);
-    text::small(f.number, out);
-    text::put(b":", out);
-    text::time(f.pts, out);
-    text::put(b"/", out);
-    text::time(f.dts, out);
-}
-
-fn place<W: Write>(times: &[[i64; 2]], tags: &[[u32; 5]], i: usize, out: &mut Output<W>)
-    requires { (length times.now ≡ places) × (length tags.now ≡ places) }
-{
-    if i < PLACES {
-        frame(places::frame_at(times, tags, i), out);
-    }
-}
-
-fn frames<W: Write>(times: &[[i64; 2]], tags: &[[u32; 5]], n: usize, out: &mut Output<W>)
-    requires { (length times.now ≡ places) × (length tags.now ≡ places) }
-{
-    for i in 0..n {
-        place(times, tags, i, out);
-    }
-}
-
-fn stored<W: Write>(h: Head, times: &Times, tags: &Tags, out: &mut Output<W>) {
-    text::put(b"stored", out);
-    frames(times, tags, h.nframes, out);
-    text::put(b"\n", out);
-}
-
-fn group_end<W: Write>(h: Head, out: &mut Output<W>) {
-    let g = h.group;
-    text::put(b"group end ", out);
-    text::time(g.end, out);
-    text::put(b"\n", out);
-}
-
-fn offset<W: Write>(h: Head, out: &mut Output<W>) {
-    let settings = h.settings;
-    let o = settings.offset;
-    text::put(b"offset ", out);
-    text::time(o.micros, out);
-    text::put(b"\n", out);
-}
-
-// Whether the first track's last decode timestamp, last duration and highest end are set.
-fn known<W: Write>(h: Head, out: &mut Output<W>) {
-    let t = h.tracks[0];
-    if t.known {
-        text::put(b"the three set\n", out);
-    } else {
-        text::put(b"the three unset\n", out);
-    }
-}
-
-// ---- the calls, on one video track
-
-fn fresh(times: &mut Times, tags: &mut Tags) -> Head {
-    let kinds = [0u8; 1];
-    let c = settings::create(&kinds, times, tags);
-    c.head
-}
-
-fn counted<W: Write>(c: Counted, fates: &[[u32; 2]], out: &mut Output<W>) -> Head {
-    let a = c.answer;
-    match a {
-        Count::Done(n) => lines(fates, n, out),
-        Count::Refused(why) => refused(why, out),
-    }
-    c.head
-}
-
-fn append<W: Write>(
-    h: Head,
-    f: Offered,
-    times: &mut Times,
-    tags: &mut Tags,
-    out: &mut Output<W>,
-) -> Head {
-    let mut fates = [[0u32; 2]; PLACES];
-    let c = append::append(h, f, times, tags, &mut fates);
-    counted(c, &fates, out)
-}
-
-// An append of which nothing is written.
-fn silent(h: Head, f: Offered, times: &mut Times, tags: &mut Tags) -> Head {
-    let mut fates = [[0u32; 2]; PLACES];
-    let c = append::append(h, f, times, tags, &mut fates);
-    c.head
-}
-
-fn remove<W: Write>(
-    h: Head,
-    start: f64,
-    end: f64,
-    times: &mut Times,
-    tags: &mut Tags,
-    out: &mut Output<W>,
-) -> Head {
-    let mut fates = [[0u32; 2]; PLACES];
-    let c = remove::remove(h, start, end, times, tags, &mut fates);
-    counted(c, &fates, out)
-}
-
+// A frame of the one video track, a random access point or none, shown and decoded at these times.
 fn offered(flagged: bool, pts: i64, dts: i64) -> Offered {
     Offered {
         track: 1,
-        flagged: flagged,
+        flagged,
         duration: 100,
-        pts: pts,
-        dts: dts,
+        pts,
+        dts,
     }
 }
 
-fn lasting(duration: u32) -> Offered {
-    Offered {
-        track: 1,
-        flagged: true,
-        duration: duration,
-        pts: 0,
-        dts: 0,
+// A buffer with one video track, and where the calls on it are told.
+#[derive(Drop)]
+struct Run<W: Write> {
+    head: Head,
+    times: Times,
+    tags: Tags,
+    out: Output<W>,
+}
+
+impl<W: Write> Run<W> {
+    fn new(to: W) -> Self {
+        Run {
+            head: settings::no_head(),
+            times: [[0; 2]; PLACES],
+            tags: [[0; 5]; PLACES],
+            out: Output::new(to),
+        }
+    }
+
+    // ---- what is written
+
+    fn refused(&mut self, why: Refusal) -> io::Result<()> {
+        writeln!(self.out, "refused {}", why.number())
+    }
+
+    fn changed(&mut self, answer: Result<(), Refusal>) -> io::Result<()> {
+        match answer {
+            Ok(()) => writeln!(self.out, "done"),
+            Err(why) => self.refused(why),
+        }
+    }
+
+    fn counted(
+        &mut self,
+        answer: Result<usize, Refusal>,
+        fates: &[[u32; 2]; PLACES],
+    ) -> io::Result<()> {
+        match answer {
+            Ok(n) => writeln!(self.out, "{}", Fates(&fates[..n.min(PLACES)])),
+            Err(why) => self.refused(why),
+        }
+    }
+
+    fn report(&mut self) -> io::Result<()> {
+        let mut list = [[0; 2]; PLACES];
+        match ranges::track_ranges(self.head, &self.times, &self.tags, 1, &mut list) {
+            Ok(n) => writeln!(self.out, "{}", Ranges(&list[..n.min(PLACES)])),
+            Err(why) => self.refused(why),
+        }
+    }
+
+    // The stored frames: the number of each, when it is shown, when it is decoded.
+    fn stored(&mut self) -> io::Result<()> {
+        write!(self.out, "stored")?;
+        for i in 0..self.head.nframes.min(PLACES) {
+            let f = places::frame_at(&self.times, &self.tags, i);
+            write!(self.out, " {}:{}/{}", f.number, f.pts, f.dts)?;
+        }
+        writeln!(self.out)
+    }
+
+    fn group_end(&mut self) -> io::Result<()> {
+        writeln!(self.out, "group end {}", self.head.group.end)
+    }
+
+    fn offset(&mut self) -> io::Result<()> {
+        writeln!(self.out, "offset {}", self.head.settings.offset.micros)
+    }
+
+    // Whether the first track's last decode timestamp, last duration and highest end are set.
+    fn known(&mut self) -> io::Result<()> {
+        let which = if self.head.tracks[0].known {
+            "set"
+        } else {
+            "unset"
+        };
+        writeln!(self.out, "the three {which}")
+    }
+
+    // ---- the calls
+
+    fn fresh(&mut self) {
+        let created = settings::create(&[0], &mut self.times, &mut self.tags);
+        self.head = created.unwrap_or(settings::no_head());
+    }
+
+    fn append(&mut self, f: Offered) -> io::Result<()> {
+        let mut fates = [[0; 2]; PLACES];
+        let head = &mut self.head;
+        let answer = append::append(head, f, &mut self.times, &mut self.tags, &mut fates);
+        self.counted(answer, &fates)
+    }
+
+    // R of document 01, a random access point, and P, which is none: shown, then decoded.
+    fn r(&mut self, pts: i64, dts: i64) -> io::Result<()> {
+        self.append(offered(true, pts, dts))
+    }
+
+    fn p(&mut self, pts: i64, dts: i64) -> io::Result<()> {
+        self.append(offered(false, pts, dts))
+    }
+
+    fn remove(&mut self, start: f64, end: f64) -> io::Result<()> {
+        let mut fates = [[0; 2]; PLACES];
+        let answer = remove::remove(
+            &mut self.head,
+            start,
+            end,
+            &mut self.times,
+            &mut self.tags,
+            &mut fates,
+        );
+        self.counted(answer, &fates)
+    }
+
+    fn abort(&mut self) -> io::Result<()> {
+        let answer = settings::abort(&mut self.head, &self.times, &self.tags);
+        self.changed(answer)
+    }
+
+    // ---- where cases begin
+
+    // A itself, with which B and C begin.
+    fn two(&mut self) -> io::Result<()> {
+        self.fresh();
+        self.r(0, 0)?;
+        self.p(100, 100)
+    }
+
+    // E's first four appends, with which H and I begin.
+    fn four(&mut self) -> io::Result<()> {
+        self.two()?;
+        self.p(200, 200)?;
+        self.r(300, 300)
+    }
+
+    // A store that holds all it can: random access points, each where the one before ends. None of it is told.
+    fn full(&mut self) {
+        self.fresh();
+        let mut fates = [[0; 2]; PLACES];
+        for i in 0..PLACES {
+            let at = i as i64 * 100;
+            let f = offered(true, at, at);
+            let head = &mut self.head;
+            let _ = append::append(head, f, &mut self.times, &mut self.tags, &mut fates);
+        }
+    }
+
+    // ---- the cases
+
+    fn case_a(&mut self) -> io::Result<()> {
+        writeln!(self.out, "A")?;
+        self.two()?;
+        self.report()
+    }
+
+    fn case_b(&mut self) -> io::Result<()> {
+        writeln!(self.out, "B")?;
+        self.two()?;
+        self.p(400, 300)?;
+        self.report()
+    }
+
+    fn case_c(&mut self) -> io::Result<()> {
+        writeln!(self.out, "C")?;
+        self.two()?;
+        self.p(400, 301)?;
+        self.group_end()?;
+        self.report()
+    }
+
+    fn case_d(&mut self) -> io::Result<()> {
+        writeln!(self.out, "D")?;
+        self.fresh();
+        self.r(0, 0)?;
+        self.p(101, 101)?;
+        self.report()
+    }
+
+    fn case_e(&mut self) -> io::Result<()> {
+        writeln!(self.out, "E")?;
+        self.four()?;
+        self.abort()?;
+        self.r(100, 100)?;
+        self.stored()?;
+        self.report()
+    }
+
+    fn case_f(&mut self) -> io::Result<()> {
+        writeln!(self.out, "F")?;
+        self.fresh();
+        self.r(0, 0)?;
+        self.abort()?;
+        self.r(200, 0)?;
+        self.p(0, 100)?;
+        self.stored()?;
+        self.report()
+    }
+
+    fn case_g(&mut self) -> io::Result<()> {
+        writeln!(self.out, "G")?;
+        self.fresh();
+        let answer = settings::set_mode(&mut self.head, &self.times, &self.tags, Mode::Sequence);
+        self.changed(answer)?;
+        self.r(5000, 4900)?;
+        self.stored()?;
+        self.r(9000, 8900)?;
+        self.stored()?;
+        self.offset()?;
+        self.report()
+    }
+
+    fn case_h(&mut self) -> io::Result<()> {
+        writeln!(self.out, "H")?;
+        self.four()?;
+        self.remove(0.00015, 0.00025)?;
+        self.report()
+    }
+
+    fn case_i(&mut self) -> io::Result<()> {
+        writeln!(self.out, "I")?;
+        self.four()?;
+        self.remove(0.00015, 0.00035)?;
+        self.group_end()?;
+        self.known()?;
+        self.report()
+    }
+
+    // A frame on a buffer with J's window.
+    fn in_window(&mut self, at: i64) -> io::Result<()> {
+        self.fresh();
+        let answer = settings::set_window_end(&mut self.head, &self.times, &self.tags, 0.00015);
+        self.changed(answer)?;
+        let answer = settings::set_window_start(&mut self.head, &self.times, &self.tags, 0.00005);
+        self.changed(answer)?;
+        self.r(at, at)?;
+        self.report()
+    }
+
+    fn case_j(&mut self) -> io::Result<()> {
+        writeln!(self.out, "J")?;
+        self.in_window(49)?;
+        self.in_window(50)?;
+        self.in_window(51)
+    }
+
+    fn case_l(&mut self) -> io::Result<()> {
+        writeln!(self.out, "L")?;
+        self.fresh();
+        let answer = settings::set_offset(
+            &mut self.head,
+            &self.times,
+            &self.tags,
+            1000000.0000000001,
+        );
+        self.changed(answer)?;
+        for duration in [0, 10000000] {
+            self.append(Offered {
+                duration,
+                ..offered(true, 0, 0)
+            })?;
+        }
+        self.full();
+        self.report()?;
+        self.r(102400, 102400)?;
+        self.r(0, 0)?;
+        self.report()
+    }
+
+    // The example of No. 4: old frame 2 goes, and new frame 4 stays.
+    fn case_s(&mut self) -> io::Result<()> {
+        writeln!(self.out, "S")?;
+        self.fresh();
+        self.r(0, 0)?;
+        self.p(400, 150)?;
+        self.abort()?;
+        self.r(200, 100)?;
+        self.p(300, 200)?;
+        self.p(400, 250)?;
+        self.stored()?;
+        self.report()
+    }
+
+    // Whatever would begin a group after the last is refused; the last is used.
+    fn case_x(&mut self) -> io::Result<()> {
+        writeln!(self.out, "X")?;
+        self.fresh();
+        self.head.group = Group {
+            number: LAST_GROUP,
+            ..self.head.group
+        };
+        self.abort()?;
+        self.r(0, 0)?;
+        self.p(100, 100)?;
+        self.p(400, 301)?;
+        self.remove(0.00005, 0.00015)?;
+        self.r(200, 200)?;
+        self.remove(0.00005, 0.00015)?;
+        self.stored()?;
+        self.report()
+    }
+
+    fn cases(&mut self) -> io::Result<()> {
+        self.case_a()?;
+        self.case_b()?;
+        self.case_c()?;
+        self.case_d()?;
+        self.case_e()?;
+        self.case_f()?;
+        self.case_g()?;
+        self.case_h()?;
+        self.case_i()?;
+        self.case_j()?;
+        self.case_l()?;
+        self.case_s()?;
+        self.case_x()
     }
 }
 
-// R of document 01, a random access point, and P, which is none: shown, then decoded.
-fn r<W: Write>(
-    h: Head,
-    pts: i64,
-    dts: i64,
-    times: &mut Times,
-    tags: &mut Tags,
-    out: &mut Output<W>,
-) -> Head {
-    append(h, offered(true, pts, dts), times, tags, out)
-}
-
-fn p<W: Write>(
-    h: Head,
-    pts: i64,
-    dts: i64,
-    times: &mut Times,
-    tags: &mut Tags,
-    out: &mut Output<W>,
-) -> Head {
-    append(h, offered(false, pts, dts), times, tags, out)
-}
-
-fn report<W: Write>(h: Head, times: &Times, tags: &Tags, out: &mut Output<W>) {
-    let mut list = [[0i64; 2]; PLACES];
-    match ranges::track_ranges(h, times, tags, 1, &mut list) {
-        Count::Done(n) => ranges_of(&list, n, out),
-        Count::Refused(why) => refused(why, out),
-    }
-}
-
-fn changed<W: Write>(c: Changed, out: &mut Output<W>) -> Head {
-    let a = c.answer;
-    match a {
-        Answer::Done => text::put(b"done\n", out),
-        Answer::Refused(why) => refused(why, out),
-    }
-    c.head
-}
-
-fn abort<W: Write>(h: Head, times: &Times, tags: &Tags, out: &mut Output<W>) -> Head {
-    changed(settings::abort(h, times, tags), out)
-}
-
-// ---- the cases
-
-// A itself, with which B and C begin.
-fn two<W: Write>(times: &mut Times, tags: &mut Tags, out: &mut Output<W>) -> Head {
-    let h = r(fresh(times, tags), 0, 0, times, tags, out);
-    p(h, 100, 100, times, tags, out)
-}
-
-// E's first four appends, with which H and I begin.
-fn four<W: Write>(times: &mut Times, tags: &mut Tags, out: &mut Output<W>) -> Head {
-    let h = p(two(times, tags, out), 200, 200, times, tags, out);
-    r(h, 300, 300, times, tags, out)
-}
-
-fn case_a<W: Write>(times: &mut Times, tags: &mut Tags, out: &mut Output<W>) {
-    text::put(b"A\n", out);
-    let h = two(times, tags, out);
-    report(h, times, tags, out);
-}
-
-fn case_b<W: Write>(times: &mut Times, tags: &mut Tags, out: &mut Output<W>) {
-    text::put(b"B\n", out);
-    let h = p(two(times, tags, out), 400, 300, times, tags, out);
-    report(h, times, tags, out);
-}
-
-fn case_c<W: Write>(times: &mut Times, tags: &mut Tags, out: &mut Output<W>) {
-    text::put(b"C\n", out);
-    let h = p(two(times, tags, out), 400, 301, times, tags, out);
-    group_end(h, out);
-    report(h, times, tags, out);
-}
-
-fn case_d<W: Write>(times: &mut Times, tags: &mut Tags, out: &mut Output<W>) {
-    text::put(b"D\n", out);
-    let h = r(fresh(times, tags), 0, 0, times, tags, out);
-    let k = p(h, 101, 101, times, tags, out);
-    report(k, times, tags, out);
-}
-
-fn case_e<W: Write>(times: &mut Times, tags: &mut Tags, out: &mut Output<W>) {
-    text::put(b"E\n", out);
-    let h = abort(four(times, tags, out), times, tags, out);
-    let k = r(h, 100, 100, times, tags, out);
-    stored(k, times, tags, out);
-    report(k, times, tags, out);
-}
-
-fn case_f<W: Write>(times: &mut Times, tags: &mut Tags, out: &mut Output<W>) {
-    text::put(b"F\n", out);
-    let h = abort(
-        r(fresh(times, tags), 0, 0, times, tags, out),
-        times,
-        tags,
-        out,
-    );
-    let k = r(h, 200, 0, times, tags, out);
-    let l = p(k, 0, 100, times, tags, out);
-    stored(l, times, tags, out);
-    report(l, times, tags, out);
-}
-
-fn case_g<W: Write>(times: &mut Times, tags: &mut Tags, out: &mut Output<W>) {
-    text::put(b"G\n", out);
-    let f = fresh(times, tags);
-    let m = changed(settings::set_mode(f, times, tags, Mode::Sequence), out);
-    let h = r(m, 5000, 4900, times, tags, out);
-    stored(h, times, tags, out);
-    let k = r(h, 9000, 8900, times, tags, out);
-    stored(k, times, tags, out);
-    offset(k, out);
-    report(k, times, tags, out);
-}
-
-fn case_h<W: Write>(times: &mut Times, tags: &mut Tags, out: &mut Output<W>) {
-    text::put(b"H\n", out);
-    let h = remove(four(times, tags, out), 0.00015, 0.00025, times, tags, out);
-    report(h, times, tags, out);
-}
-
-fn case_i<W: Write>(times: &mut Times, tags: &mut Tags, out: &mut Output<W>) {
-    text::put(b"I\n", out);
-    let h = remove(four(times, tags, out), 0.00015, 0.00035, times, tags, out);
-    group_end(h, out);
-    known(h, out);
-    report(h, times, tags, out);
-}
-
-fn window<W: Write>(times: &mut Times, tags: &mut Tags, out: &mut Output<W>) -> Head {
-    let f = fresh(times, tags);
-    let h = changed(settings::set_window_end(f, times, tags, 0.00015), out);
-    changed(settings::set_window_start(h, times, tags, 0.00005), out)
-}
-
-// A frame on a buffer with that window.
-fn in_window<W: Write>(at: i64, times: &mut Times, tags: &mut Tags, out: &mut Output<W>) {
-    let h = r(window(times, tags, out), at, at, times, tags, out);
-    report(h, times, tags, out);
-}
-
-fn case_j<W: Write>(times: &mut Times, tags: &mut Tags, out: &mut Output<W>) {
-    text::put(b"J\n", out);
-    in_window(49, times, tags, out);
-    in_window(50, times, tags, out);
-    in_window(51, times, tags, out);
-}
-
-// A store that holds all it can: random access points, each where the one before ends.
-fn full(times: &mut Times, tags: &mut Tags) -> Head {
-    let mut h = fresh(times, tags);
-    let mut i: usize = 0;
-    while i < PLACES {
-        let at = i * 100;
-        h = silent(h, offered(true, at as i64, at as i64), times, tags);
-        i += 1;
-    }
-    h
-}
-
-fn case_l<W: Write>(times: &mut Times, tags: &mut Tags, out: &mut Output<W>) {
-    text::put(b"L\n", out);
-    let f = fresh(times, tags);
-    changed(
-        settings::set_offset(f, times, tags, 1000000.0000000001),
-        out,
-    );
-    append(f, lasting(0), times, tags, out);
-    append(f, lasting(10000000), times, tags, out);
-    let h = full(times, tags);
-    report(h, times, tags, out);
-    r(h, 102400, 102400, times, tags, out);
-    let k = r(h, 0, 0, times, tags, out);
-    report(k, times, tags, out);
-}
-
-// The example of No. 4: old frame 2 goes, and new frame 4 stays.
-fn case_s<W: Write>(times: &mut Times, tags: &mut Tags, out: &mut Output<W>) {
-    text::put(b"S\n", out);
-    let f = r(fresh(times, tags), 0, 0, times, tags, out);
-    let h = abort(p(f, 400, 150, times, tags, out), times, tags, out);
-    let k = r(h, 200, 100, times, tags, out);
-    let l = p(k, 300, 200, times, tags, out);
-    let m = p(l, 400, 250, times, tags, out);
-    stored(m, times, tags, out);
-    report(m, times, tags, out);
-}
-
-fn in_last_group(h: Head) -> Head {
-    let g = h.group;
-    let last = Group {
-        number: 4294967295,
-        ..g
-    };
-    Head { group: last, ..h }
-}
-
-// Whatever would begin a group after the last is refused; the last is used.
-fn case_x<W: Write>(times: &mut Times, tags: &mut Tags, out: &mut Output<W>) {
-    text::put(b"X\n", out);
-    let f = abort(in_last_group(fresh(times, tags)), times, tags, out);
-    let h = r(f, 0, 0, times, tags, out);
-    let k = p(h, 100, 100, times, tags, out);
-    p(k, 400, 301, times, tags, out);
-    remove(k, 0.00005, 0.00015, times, tags, out);
-    let l = r(k, 200, 200, times, tags, out);
-    let m = remove(l, 0.00005, 0.00015, times, tags, out);
-    stored(m, times, tags, out);
-    report(m, times, tags, out);
-}
-
-fn main(rt: HostRuntime) {
-    let mut times = [[0i64; 2]; PLACES];
-    let mut tags = [[0u32; 5]; PLACES];
-    let mut out = text::no_output(rt.stdout());
-    case_a(&mut times, &mut tags, &mut out);
-    case_b(&mut times, &mut tags, &mut out);
-    case_c(&mut times, &mut tags, &mut out);
-    case_d(&mut times, &mut tags, &mut out);
-    case_e(&mut times, &mut tags, &mut out);
-    case_f(&mut times, &mut tags, &mut out);
-    case_g(&mut times, &mut tags, &mut out);
-    case_h(&mut times, &mut tags, &mut out);
-    case_i(&mut times, &mut tags, &mut out);
-    case_j(&mut times, &mut tags, &mut out);
-    case_l(&mut times, &mut tags, &mut out);
-    case_s(&mut times, &mut tags, &mut out);
-    case_x(&mut times, &mut tags, &mut out);
-    text::tell_failed(b"soundings", &out, &mut rt.stderr());
+fn main(rt: HostRuntime) -> io::Result<()> {
+    let mut run = Run::new(rt.stdout());
+    run.cases()?;
+    run.out.tell_failed("soundings", &mut rt.stderr());
+    Ok(())
 }

@@ -1,23 +1,50 @@
 -- The first loss, one frame after another.
+use Rattle.std.specs.Prelude.{Option, None, Some, is_some}
 use mathlib.Core.Path.{◌≡◌, refl, sym, ap, ◌∙◌}
 use mathlib.Core.Bool.{Bool, true, false, cond, and-false}
 use mathlib.Core.List.{List, [], ◌∷◌, ◌++◌, map}
 use Prim.Native.Nat.{ℕ}
 use lib.Dec.{eqb}
+use lib.IntN.{ℤ}
 use lib.ListN.{take, drop, get_or, take-append-drop}
 use borrow.Author.Tests.{eq-eqb, ne_eqb}
+use Rattle.laws.proofs.BoolLaws.{clash}
 use Rattle.seconds.specs.Seconds.{Bound, unbounded, at}
 use Rattle.buffer_state.specs.declared.Frame.{Frame}
 use Rattle.buffer_state.specs.declared.Track.{Track}
 use Rattle.buffer_state.specs.Buffer.{zero_track}
 use Rattle.buffer_state.specs.Store.{Marked}
-use Rattle.taking.specs.Loss.{earlier, ends, loss_here, loss_of}
+use Rattle.taking.specs.Loss.{bound_in, earlier, ends, loss_here, loss_of}
 use Rattle.taking.specs.Marks.{mark}
 use Rattle.taking.proofs.MarkLaws.{still}
 
 pub earlier-none : (b : Bound) → earlier b unbounded ≡ b
 earlier-none unbounded = refl
 earlier-none (at z) = refl
+
+-- ---- the loss that a frame is, as the code holds it
+
+is_at : Bound → Bool
+is_at unbounded = false
+is_at (at z) = true
+
+pub some-loss : (o : Option ℤ) (t : Track) (g : Frame) → bound_in o ≡ loss_here t g → is_some o ≡ true → ends t g ≡ true
+unfolding is_at
+some-loss None t g h e = clash (sym e)
+some-loss (Some z) t g h e = go (ends t g) h
+  where
+    go : (b : Bool) → at z ≡ cond b (at g.pts) unbounded → b ≡ true
+    go true k = refl
+    go false k = clash (ap is_at k)
+
+pub none-loss : (o : Option ℤ) (t : Track) (g : Frame) → bound_in o ≡ loss_here t g → is_some o ≡ false → ends t g ≡ false
+unfolding is_at
+none-loss None t g h e = go (ends t g) h
+  where
+    go : (b : Bool) → unbounded ≡ cond b (at g.pts) unbounded → b ≡ false
+    go true k = clash (sym (ap is_at k))
+    go false k = refl
+none-loss (Some z) t g h e = clash e
 
 module _ (ts : List Track) where
   -- frames that stay are no loss

@@ -1,15 +1,15 @@
 -- The rule on the last decode time: where the first frame that goes and ends its track was shown.
-use Rattle.std.specs.Prelude.{Bool, cond, ◌&&◌, List, [], ◌∷◌, get_or}
+use Rattle.std.specs.Prelude.{Bool, cond, ◌&&◌, List, [], ◌∷◌, get_or, ℤ, Option, None, Some}
 use Rattle.seconds.specs.Seconds.{Bound, unbounded, at, same_int}
 use Rattle.buffer_state.specs.declared.Frame.{Frame}
 use Rattle.buffer_state.specs.declared.Track.{Track}
 use Rattle.buffer_state.specs.Buffer.{zero_track}
 use Rattle.buffer_state.specs.Store.{Marked, is_taken}
-use Rattle.taking.specs.declared.Instant.{Instant}
 
--- the bound that an instant is
-abbrev pub bound_in : Instant → Bound
-bound_in i = cond i.set (at i.micros) unbounded
+-- the bound that an instant is, which need not be there
+abbrev pub bound_in : Option ℤ → Bound
+bound_in None = unbounded
+bound_in (Some z) = at z
 
 -- the first of two, or the second where there is no first
 abbrev pub earlier : Bound → Bound → Bound

@@ -1,5 +1,5 @@
 -- Frames presented in a stretch of time, one stretch for each track, and what their taking leaves and tells.
-use Rattle.std.specs.Prelude.{◌≡◌, Bool, true, false, not, ◌&&◌, List, [], ℕ, ◌≤◌, ◌<◌, ltb, pos, take, get_or}
+use Rattle.std.specs.Prelude.{◌≡◌, Bool, true, false, not, ◌&&◌, List, [], ℕ, ◌≤◌, ◌<◌, ltb, pos, take, get_or, Option, None, Some}
 use Rattle.std.specs.Int.Signed.{le_z, lt_z}
 use Rattle.buffer_state.specs.declared.Frame.{Frame}
 use Rattle.buffer_state.specs.Store.{Marked, mark_where, walk}
@@ -31,6 +31,11 @@ pub record IsFirstIn (p : Frame → Bool) (l : List Frame) (n i : ℕ) : Type 0 
   pub inside : i ≤ n
   pub before : all_of (λ (g : Frame). not (p g)) (take i l) ≡ true
   pub here : i < n → all_of (λ (g : Frame). not (p g)) l ≡ false
+
+-- the first of the n frames that passes the test, if one does
+abbrev pub FindsFirst : (Frame → Bool) → List Frame → ℕ → Option ℕ → Type 0
+FindsFirst p l n None = IsFirstIn p l n n
+FindsFirst p l n (Some i) = (i < n) × IsFirstIn p l n i
 
 -- the rows from the first up to n are of one group
 abbrev pub IsOneGroup : List (List ℕ) → ℕ → ℕ → Type 0

@@ -3,8 +3,8 @@
 // in an array of their own, and then the frames that have one are taken out.
 #![tactic(auto)]
 
-ghost use Rattle.std.specs.Prelude.{◌≡◌, true, cond, not, ◌≤◌, length, take};
-ghost use Rattle.seconds.specs.Seconds.{at};
+ghost use Rattle.std.specs.Prelude.{◌≡◌, true, cond, not, ◌≤◌, length, take, eqb, get_or};
+ghost use Rattle.std.specs.List.{list_all};
 ghost use Rattle.buffer_state.specs.declared.Frame.{Frame};
 ghost use Rattle.buffer_state.specs.Layout.{zero_frame, padded_list};
 ghost use Rattle.buffer_state.specs.Lent.{frames_of, times_of, tags_of, Lengths};
@@ -14,7 +14,7 @@ ghost use Rattle.buffer_state.specs.WellFormed.{all_of, is_sorted};
 ghost use Rattle.places.specs.Places.{Holding};
 ghost use Rattle.taking.specs.Marks.{cause_after, marked_by, NoneBefore, lines_then};
 ghost use Rattle.taking.specs.Loss.{bound_in, earlier, ends, loss_here, loss_of};
-ghost use Rattle.taking.specs.Taking.{on_track, in_span, in_spans, taken_marks, IsFirstIn, IsOneGroup};
+ghost use Rattle.taking.specs.Taking.{on_track, in_span, in_spans, taken_marks, FindsFirst, IsOneGroup};
 
 use buffer_state::{Frame, PLACES, Track};
 
@@ -23,13 +23,6 @@ use buffer_state::{Frame, PLACES, Track};
 pub struct Span {
     pub start: i64,
     pub end: i64,
-}
-
-// An instant in microseconds, or none, which is kept as zero.
-#[derive(Clone, Copy)]
-pub struct Instant {
-    pub set: bool,
-    pub micros: i64,
 }
 
 // How many frames are left, and how many lines were written.
@@ -44,7 +37,7 @@ struct Closed {
 pub struct Taken {
     pub left: usize,
     pub lines: usize,
-    pub lost: Instant,
+    pub lost: Option<i64>,
 }
 
 // ---- the stretches
@@ -57,22 +50,19 @@ pub fn in_span(s: Span, g: Frame) -> bool
     limits::at_most(s.start, g.pts) & limits::below(g.pts, s.end)
 }
 
-// The first frame in its track's stretch, or n where none is.
-pub fn first_in(times: &[[i64; 2]], tags: &[[u32; 5]], n: usize, spans: [Span; 5]) -> usize
+// The first frame in its track's stretch, if one is.
+pub fn first_in(times: &[[i64; 2]], tags: &[[u32; 5]], n: usize, spans: [Span; 5]) -> Option<usize>
     requires { (n ≤ length times.now) × (length times.now ≡ length tags.now) × (all_of on_track (take n (frames_of times.now tags.now)) ≡ true) }
-    ensures { IsFirstIn (in_spans spans) (take n (frames_of times.now tags.now)) n result }
+    ensures { FindsFirst (in_spans spans) (take n (frames_of times.now tags.now)) n result }
 {
-    let mut i: usize = 0;
-    while i < n {
+    for i in 0..n {
         let g = places::frame_at(times, tags, i);
         let k = g.track as usize;
-        let s = spans[k];
-        if in_span(s, g) {
-            return i;
+        if in_span(spans[k], g) {
+            return Some(i);
         }
-        i += 1;
     }
-    n
+    None
 }
 
 // ---- the causes
@@ -109,17 +99,13 @@ pub fn mark(
     groups::fill_slots(tags, first, n, &mut slots);
     let mut on = [false; PLACES];
     let mut causes = [0u32; PLACES];
-    let mut i = first;
-    while i < n {
+    for i in first..n {
         let g = places::frame_at(times, tags, i);
         let t = g.track as usize;
-        let span = spans[t];
         let slot = slots[i];
-        let reached = on[slot];
-        let c = goes_by(span, g, reached, cause);
+        let c = goes_by(spans[t], g, on[slot], cause);
         causes[i] = c;
         on[slot] = c != 0;
-        i += 1;
     }
     causes
 }
@@ -133,13 +119,11 @@ fn ends_track(t: Track, g: Frame) -> bool
     t.known & limits::same_int(g.dts, t.dts)
 }
 
-fn shown(g: Frame) -> Instant
-    ensures { bound_in result ≡ at g.pts }
+// Where a frame that goes was shown, if it ends its track.
+fn loss_here(t: Track, g: Frame) -> Option<i64>
+    ensures { bound_in result ≡ loss_here t g }
 {
-    Instant {
-        set: true,
-        micros: g.pts,
-    }
+    ends_track(t, g).then_some(g.pts)
 }
 
 // Where the first frame that goes and ends its track was shown. The tracks are numbered as the stretches are.
@@ -150,28 +134,22 @@ pub fn loss_of(
     first: usize,
     causes: &[u32],
     tracks: [Track; 5],
-) -> Instant
+) -> Option<i64>
     requires { (n ≤ places) × Lengths times.now tags.now × (all_of on_track (take n (frames_of times.now tags.now)) ≡ true) × (n ≤ length causes.now) × (first ≤ n) × NoneBefore first causes.now }
     ensures { bound_in result ≡ loss_of tracks (marked_by (take n (frames_of times.now tags.now)) causes.now) }
 {
-    let mut i = first;
-    while i < n {
+    for i in first..n {
         if causes[i] == 0 {
-            i += 1;
-        } else {
-            let g = places::frame_at(times, tags, i);
-            let t = g.track as usize;
-            let own = tracks[t];
-            if ends_track(own, g) {
-                return shown(g);
-            }
-            i += 1;
+            continue;
+        }
+        let g = places::frame_at(times, tags, i);
+        let t = g.track as usize;
+        let lost = loss_here(tracks[t], g);
+        if lost.is_some() {
+            return lost;
         }
     }
-    Instant {
-        set: false,
-        micros: 0,
-    }
+    None
 }
 
 // ---- taking out by the causes
@@ -193,29 +171,30 @@ fn take_out(
 {
     let mut k = first;
     let mut m: usize = 0;
-    let mut i = first;
-    while i < n {
+    for i in first..n {
         let cause = causes[i];
         let tag = tags[i];
         if cause == 0 {
-            let time = times[i];
-            times[k] = time;
+            times[k] = times[i];
             tags[k] = tag;
             k += 1;
-            i += 1;
-        } else {
-            let line = [tag[3], cause];
-            fates[m] = line;
-            m += 1;
-            i += 1;
+            continue;
         }
+        fates[m] = [tag[3], cause];
+        m += 1;
     }
-    places::clear_times(times, k, n);
-    places::clear_tags(tags, k, n);
+    places::clear(times, tags, k, n);
     Closed { left: k, lines: m }
 }
 
 // ---- taking out along one group
+
+// Whether the rows are all of the group.
+fn are_of(tags: &[[u32; 5]], group: u32) -> bool
+    ensures { result ≡ list_all (λ tag. eqb (get_or tag 4 0) group) tags.now }
+{
+    tags.iter().all(|tag| tag[4] == group)
+}
 
 // Whether the rows from the first up to n are all of one group.
 fn one_group(tags: &[[u32; 5]], first: usize, n: usize) -> bool
@@ -225,30 +204,14 @@ fn one_group(tags: &[[u32; 5]], first: usize, n: usize) -> bool
     if n <= first {
         return true;
     }
-    let top = tags[first];
-    let group = top[4];
-    let mut i = first + 1;
-    while i < n {
-        let tag = tags[i];
-        if tag[4] != group {
-            return false;
-        }
-        i += 1;
-    }
-    true
+    are_of(&tags[first..n], tags[first][4])
 }
 
 // The loss so far, or else this frame, which goes, where it ends its track.
-fn first_loss(lost: Instant, t: Track, g: Frame) -> Instant
+fn first_loss(lost: Option<i64>, t: Track, g: Frame) -> Option<i64>
     ensures { bound_in result ≡ earlier (bound_in lost) (loss_here t g) }
 {
-    if lost.set {
-        return lost;
-    }
-    if !ends_track(t, g) {
-        return lost;
-    }
-    shown(g)
+    lost.or(loss_here(t, g))
 }
 
 // All in one loop, with no array of causes. The walk carries the track of the frame taken last, and whether it goes on: in store order,
@@ -274,46 +237,32 @@ fn take_along(
     let mut follows = false;
     let mut k = first;
     let mut m: usize = 0;
-    let mut lost = Instant {
-        set: false,
-        micros: 0,
-    };
-    let mut i = first;
-    while i < n {
+    let mut lost = None;
+    for i in first..n {
         let time = times[i];
         let tag = tags[i];
         let g = places::frame_of(time, tag);
         let t = g.track as usize;
-        let s = spans[t];
-        if in_span(s, g) {
-            let own = tracks[t];
-            lost = first_loss(lost, own, g);
-            let line = [g.number, cause];
-            fates[m] = line;
+        if in_span(spans[t], g) {
+            lost = first_loss(lost, tracks[t], g);
+            fates[m] = [g.number, cause];
             m += 1;
             track = g.track;
             follows = true;
-            i += 1;
-        } else {
-            if follows & (!g.flagged & (g.track == track)) {
-                let own = tracks[t];
-                lost = first_loss(lost, own, g);
-                let line = [g.number, 5];
-                fates[m] = line;
-                m += 1;
-                follows = true;
-                i += 1;
-            } else {
-                times[k] = time;
-                tags[k] = tag;
-                k += 1;
-                follows = false;
-                i += 1;
-            }
+            continue;
         }
+        if follows & (!g.flagged & (g.track == track)) {
+            lost = first_loss(lost, tracks[t], g);
+            fates[m] = [g.number, 5];
+            m += 1;
+            continue;
+        }
+        times[k] = time;
+        tags[k] = tag;
+        k += 1;
+        follows = false;
     }
-    places::clear_times(times, k, n);
-    places::clear_tags(tags, k, n);
+    places::clear(times, tags, k, n);
     Taken {
         left: k,
         lines: m,

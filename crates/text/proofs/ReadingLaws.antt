@@ -1,28 +1,15 @@
 -- How a word's digits are read one by one.
-use Rattle.std.proofs.Common.{◌≡◌, ℕ, ◌+◌, ◌≤◌, ◌<◌, Bool, cond, List, length, drop, get_or, sym, ap, ◌∙◌, leb, add-one, drop-cons}
+use Rattle.std.proofs.Common.{◌≡◌, ℕ, ◌+◌, ◌≤◌, ◌<◌, List, length, drop, get_or, ap, ◌∙◌, sym, add-one, drop-cons, option_and_then, Some, Option}
 use Rattle.std.proofs.Math.ListN.{drop_of_length-le}
-use borrow.Author.Tests.{le-leb, lt-leb}
-use Rattle.text.specs.Reading.{digit_of, longer_by, digits_from}
-use Rattle.text.specs.declared.read.Natural.{Natural}
-use Rattle.text.specs.declared.read.Natural.TheVariants as N
+use Rattle.text.specs.Reading.{digit_of, with_digit, digits_from}
 
-module _ (base m i : ℕ) (w : List ℕ) (r : Natural) (rest : digits_from base m (drop i w) ≡ r) where
-  next : (d : ℕ) → i < length w → d ≡ digit_of (get_or w i 0)
-      → cond (leb base d) N.Not (digits_from base (longer_by base m d) (drop (i + 1) w)) ≡ r
-  unfolding digits_from
-  next d h e =
-      ap (λ (k : ℕ). cond (leb base k) N.Not (digits_from base (longer_by base m k) (drop (i + 1) w))) e
-      ∙ sym (rw (add-one, drop-cons w i 0)) ∙ rest
+-- the digit at a place, and those after it
+pub digits_at : (base m i : ℕ) (w : List ℕ) → i < length w
+    → digits_from base m (drop i w) ≡ option_and_then (λ k. digits_from base k (drop (i + 1) w)) (option_and_then (with_digit base m) (digit_of (get_or w i 0)))
+unfolding digits_from
+digits_at base m i w h = rw (add-one, drop-cons w i 0)
 
-  -- a byte that is no digit of the base ends the reading
-  pub digits-stop : (d : ℕ) → i < length w → d ≡ digit_of (get_or w i 0) → base ≤ d → N.Not ≡ r
-  digits-stop d h e k =
-      sym (ap (λ (b : Bool). cond b N.Not (digits_from base (longer_by base m d) (drop (i + 1) w))) (le-leb base d k)) ∙ next d h e
-
-  pub digits_more : (d : ℕ) → i < length w → d ≡ digit_of (get_or w i 0) → d < base → digits_from base (longer_by base m d) (drop (i + 1) w) ≡ r
-  digits_more d h e k =
-      sym (ap (λ (b : Bool). cond b N.Not (digits_from base (longer_by base m d) (drop (i + 1) w))) (lt-leb base d k)) ∙ next d h e
-
-  pub digits-end : length w ≤ i → N.Is m ≡ r
-  unfolding digits_from
-  digits-end h = sym (ap (digits_from base m) (drop_of_length-le w h)) ∙ rest
+-- nothing is left to read
+pub digits_end : (base m i : ℕ) (w : List ℕ) → length w ≤ i → digits_from base m (drop i w) ≡ Some m
+unfolding digits_from
+digits_end base m i w h = ap (digits_from base m) (drop_of_length-le w h)

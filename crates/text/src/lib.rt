@@ -1,137 +1,128 @@
 #![tactic(auto)]
-// Numbers, doubles, bytes, fate lines and ranges as text: written to standard output here, to standard error in errors.rt, read from a word in
-// read.rt.
-pub mod errors;
+// Numbers, doubles, bytes, fate lines and ranges as text: how they are written here, how they are read from a word in read.rt; and what a
+// program writes to.
+ghost use Rattle.std.specs.Prelude.{◌≡◌, ◌||◌, length, Some, Ok, IsTrue, IsFalse, is_err};
+ghost use Rattle.text.specs.Written.{double_text, bytes_text, fates_text, ranges_text};
+
 pub mod read;
 
-use std::io;
 use std::io::Write;
+use std::num::f64_to_bits_with_nan;
+use std::{fmt, io};
 
-// What a program keeps of its run, lent to every function that writes: the writer to standard output, whether a write to it failed, and notes
-// that are the program's own.
+// ---- where a program writes
+
+// Standard output, as a run sees it that goes on where it cannot be written: no write fails, and whether one did is kept for the run's end.
 #[derive(Drop)]
 pub struct Output<W: Write> {
     pub to: W,
     pub failed: bool,
-    pub notes: [u64; 4],
 }
 
-pub fn no_output<W: Write>(to: W) -> Output<W> {
-    Output {
-        to,
-        failed: false,
-        notes: [0; 4],
+impl<W: Write> Output<W> {
+    pub fn new(to: W) -> Self
+        ensures to { result.to ≡ to }
+        ensures failed { IsFalse result.failed }
+    {
+        Output { to, failed: false }
+    }
+
+    fn note(&mut self, written: io::Result<()>)
+        ensures to { self.new.to ≡ self.old.to }
+        ensures failed { self.new.failed ≡ self.old.failed || is_err written }
+    {
+        self.failed = self.failed || written.is_err();
+    }
+
+    // At the end of the program of this name, told on standard error. Where that cannot be written either, nothing more can be said.
+    pub fn tell_failed<E: Write>(&self, program: &str, error: &mut E)
+        ensures silent { IsFalse self.now.failed → error.new ≡ error.old }
+    {
+        if self.failed {
+            let _ = writeln!(error, "{program}: standard output could not be written");
+        }
     }
 }
 
-// What a write to standard output answered.
-fn written<W: Write>(answer: io::Result<()>, out: &mut Output<W>) {
-    if answer.is_err() {
-        out.failed = true;
+impl<W: Write> Write for Output<W> {
+    fn write(&mut self, bytes: &[u8]) -> io::Result<usize>
+        ensures whole { result ≡ Ok (length bytes.now) }
+        ensures kept { IsTrue self.old.failed → IsTrue self.new.failed }
+    {
+        let written = self.to.write_all(bytes);
+        self.note(written);
+        Ok(bytes.len())
+    }
+
+    fn flush(&mut self) -> io::Result<()>
+        ensures kept { IsTrue self.old.failed → IsTrue self.new.failed }
+    {
+        let written = self.to.flush();
+        self.note(written);
+        Ok(())
     }
 }
 
-// At the end of the program of this name, told on standard error.
-pub fn tell_failed<W: Write>(program: &[u8], out: &Output<W>, error: &mut impl Write) {
-    if !out.failed {
-        return;
-    }
-    errors::put(program, error);
-    errors::put(b": standard output could not be written\n", error);
-}
+// ---- how things are written
 
-pub fn put<W: Write>(b: &[u8], out: &mut Output<W>) {
-    let answer = out.to.write_all(b);
-    written(answer, out);
-}
+// A double by its bits. Which bits a NaN has is the machine's choice, so one pattern stands for them all.
+#[derive(Clone, Copy, Debug)]
+pub struct Double(pub f64);
 
-pub fn number<W: Write>(n: u64, out: &mut Output<W>) {
-    let answer = write!(out.to, "{n}");
-    written(answer, out);
-}
+impl fmt::Display for Double {
+    ghost output = { λ d. Some (double_text d.0) };
 
-pub fn small<W: Write>(n: u32, out: &mut Output<W>) {
-    number(n as u64, out);
-}
-
-// z without its sign. One less is cast, as the least i64 has no negative.
-fn magnitude(z: i64) -> u64 {
-    if 0 <= z {
-        return z as u64;
-    }
-    let less = -1 - z;
-    less as u64 + 1
-}
-
-pub fn time<W: Write>(z: i64, out: &mut Output<W>) {
-    if z < 0 {
-        put(b"-", out);
-    }
-    number(magnitude(z), out);
-}
-
-pub fn double<W: Write>(x: f64, out: &mut Output<W>) {
-    put(b"0x", out);
-    let bits = seconds::bits_of(x);
-    let answer = write!(out.to, "{bits:016x}");
-    written(answer, out);
-}
-
-fn byte<W: Write>(b: u8, out: &mut Output<W>) {
-    let answer = write!(out.to, "{b:02x}");
-    written(answer, out);
-}
-
-fn byte_at<W: Write>(list: &[u8], i: usize, out: &mut Output<W>) {
-    if i < list.len() {
-        byte(list[i], out);
+    fn fmt<W: fmt::Write>(&self, f: &mut fmt::Formatter<W>) -> fmt::Result {
+        write!(f, "0x{:016x}", f64_to_bits_with_nan(self.0))
     }
 }
 
 // Two digits for each byte; no bytes are `-`.
-pub fn bytes<W: Write>(list: &[u8], out: &mut Output<W>) {
-    if list.len() == 0 {
-        put(b"-", out);
-    }
-    for i in 0..list.len() {
-        byte_at(list, i, out);
+#[derive(Clone, Copy, Debug)]
+pub struct Bytes<'a>(pub &'a [u8]);
+
+impl fmt::Display for Bytes<'_> {
+    ghost output = { λ b. Some (bytes_text b.0.now) };
+
+    fn fmt<W: fmt::Write>(&self, f: &mut fmt::Formatter<W>) -> fmt::Result {
+        if self.0.is_empty() {
+            return write!(f, "-");
+        }
+        for byte in self.0 {
+            write!(f, "{byte:02x}")?;
+        }
+        Ok(())
     }
 }
 
-fn fate<W: Write>(list: &[[u32; 2]], i: usize, out: &mut Output<W>) {
-    if i < list.len() {
-        let l = list[i];
-        put(b" (", out);
-        small(l[0], out);
-        put(b",", out);
-        small(l[1], out);
-        put(b")", out);
+// Fate lines: the number of each frame and its cause.
+#[derive(Clone, Copy, Debug)]
+pub struct Fates<'a>(pub &'a [[u32; 2]]);
+
+impl fmt::Display for Fates<'_> {
+    ghost output = { λ f. Some (fates_text f.0.now) };
+
+    fn fmt<W: fmt::Write>(&self, f: &mut fmt::Formatter<W>) -> fmt::Result {
+        write!(f, "fates")?;
+        for [number, cause] in self.0 {
+            write!(f, " ({number},{cause})")?;
+        }
+        Ok(())
     }
 }
 
-// The first n fate lines.
-pub fn fates<W: Write>(list: &[[u32; 2]], n: usize, out: &mut Output<W>) {
-    put(b"fates", out);
-    for i in 0..n {
-        fate(list, i, out);
-    }
-}
+// Ranges, each from its first time up to the one that ends it.
+#[derive(Clone, Copy, Debug)]
+pub struct Ranges<'a>(pub &'a [[i64; 2]]);
 
-fn range<W: Write>(list: &[[i64; 2]], i: usize, out: &mut Output<W>) {
-    if i < list.len() {
-        let r = list[i];
-        put(b" [", out);
-        time(r[0], out);
-        put(b",", out);
-        time(r[1], out);
-        put(b")", out);
-    }
-}
+impl fmt::Display for Ranges<'_> {
+    ghost output = { λ r. Some (ranges_text r.0.now) };
 
-// The first n ranges.
-pub fn ranges<W: Write>(list: &[[i64; 2]], n: usize, out: &mut Output<W>) {
-    put(b"ranges", out);
-    for i in 0..n {
-        range(list, i, out);
+    fn fmt<W: fmt::Write>(&self, f: &mut fmt::Formatter<W>) -> fmt::Result {
+        write!(f, "ranges")?;
+        for [start, end] in self.0 {
+            write!(f, " [{start},{end})")?;
+        }
+        Ok(())
     }
 }

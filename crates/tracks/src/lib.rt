@@ -32,24 +32,21 @@ fn after(t: Track, unset: bool) -> Track
     ensures { result ≡ cond unset (restarted_track t) (with_need true t) }
 {
     if unset {
-        return restart(t);
+        restart(t)
+    } else {
+        with_need(t, true)
     }
-    with_need(t, true)
 }
 
 // All n tracks changed.
-fn changed_all(ts: [Track; 4], n: usize, unset: bool) -> [Track; 4]
+fn changed_all(mut ts: [Track; 4], n: usize, unset: bool) -> [Track; 4]
     requires { n ≤ 4 }
     ensures { result ≡ map (λ t. cond unset (restarted_track t) (with_need true t)) (take n ts) ++ drop n ts }
 {
-    let mut out = ts;
-    let mut i: usize = 0;
-    while i < n {
-        let t = out[i];
-        out[i] = after(t, unset);
-        i += 1;
+    for i in 0..n {
+        ts[i] = after(ts[i], unset);
     }
-    out
+    ts
 }
 
 // Need-random-access on for all n tracks.
@@ -81,12 +78,10 @@ pub fn is_sequence(m: Mode) -> bool
 pub fn start_at_end(g: Group) -> Group
     ensures { result ≡ start_at_end g }
 {
-    let e = g.end;
     Group {
         begun: true,
-        start: e,
-        end: e,
-        number: g.number,
+        start: g.end,
+        ..g
     }
 }
 
@@ -94,10 +89,10 @@ pub fn start_at_end(g: Group) -> Group
 pub fn regroup(m: Mode, g: Group, p: i64) -> Group
     ensures { result ≡ cond (is_sequence m) (start_at_end g) (with_end g p) }
 {
-    if is_sequence(m) {
-        return start_at_end(g);
+    match m {
+        Mode::Segments => Group { end: p, ..g },
+        Mode::Sequence => start_at_end(g),
     }
-    Group { end: p, ..g }
 }
 
 // The next group begins.

@@ -6,3 +6,4 @@ pub mod DistinctLaws
 pub mod FramesLaws
 pub mod StateLaws
 pub mod WholeLaws
+pub mod CheckLaws

@@ -2,14 +2,14 @@
 use mathlib.Core.Path.{◌≡◌, refl, sym, ap, ap₂, ◌∙◌}
 use mathlib.Core.Bool.{Bool, true, false, ◌&&◌, and-true, and_assoc}
 use mathlib.Core.List.{List, []}
-use Prim.Native.Nat.{ℕ, ◌+◌, ◌≤◌, ◌<◌}
+use Prim.Native.Nat.{ℕ, ◌+◌, ◌-◌, ◌≤◌, ◌<◌}
 use native.Mathlib.Numerals.{add-one}
 use native.Mathlib.Omega.{arith}
 use lib.Bits.{bit_or, or_add_and, and_le_l, and_le_r}
 use lib.Dec.{eqb}
 use lib.IntN.{ℤ, pos}
-use lib.ListN.{length, drop, get_or, drop_of_length-le}
-use lib.Seq.{drop-cons}
+use lib.ListN.{length, take, drop, get_or, length-drop, drop_of_length-le}
+use lib.Seq.{drop-cons, get_or-drop, take_all}
 use mir.Syntax.{w64}
 use mir.Val.{SFits, of_z, to_z}
 use mir.ValLaws.{to_z-of_z}
@@ -59,6 +59,19 @@ all_past p l i h = rw (drop_of_length-le l {i = i} h)
 -- where nothing is left
 pub ended : {A : Type 0} (p : A → Bool) (l : List A) (i : ℕ) (b r : Bool) → length l ≤ i → (b && all_of p (drop i l)) ≡ r → b ≡ r
 ended p l i b r h e = sym (ap (λ (x : Bool). b && x) (all_past p l i h) ∙ and-true b) ∙ e
+
+-- the rows past the count, lent as a list of their own
+module _ {A : Type 0} (l : List (List A)) (n : ℕ) where
+  abbrev pub rows_past : List (List A)
+  rows_past = take (length l - n) (drop n l)
+
+  pub past-is : rows_past ≡ drop n l
+  past-is = take_all (length l - n) (drop n l) (omega (arith, length-drop n l))
+
+  pub past-width : (w : ℕ) → ((i : ℕ) → i < length l → length (get_or l i []) ≡ w) → (i : ℕ) → i < length rows_past → length (get_or rows_past i []) ≡ w
+  past-width w rows i h =
+      let h' : i < length (drop n l) = rw past-is at h in
+      rw (past-is, get_or-drop n l i []) (rows (n + i) (omega (arith, length-drop n l)))
 
 module _ (ts : List (List ℤ)) (i : ℕ) (h : i < length ts) (k : length (get_or ts i []) ≡ 2) (a b : ℕ) where
   pub times-turn : SFits w64 (get_or (get_or ts i []) 0 (pos 0)) → SFits w64 (get_or (get_or ts i []) 1 (pos 0))

@@ -1,12 +1,18 @@
 -- The parts of the well-formed test, as it is made.
-use Rattle.std.specs.Prelude.{Bool, true, ◌&&◌, List, [], ◌∷◌, ℕ, zero, suc, leb, eqb, ℤ, pos, length, take, get_or}
+use Rattle.std.specs.Prelude.{Bool, true, cond, Ok, Err, ◌&&◌, List, [], ◌∷◌, ℕ, zero, suc, leb, eqb, ℤ, pos, length, take, get_or}
 use Rattle.buffer_state.specs.declared.Frame.{Frame}
 use Rattle.buffer_state.specs.declared.Head.{Head}
 use Rattle.buffer_state.specs.Layout.{is_zero_frame, is_zero_track}
 use Rattle.buffer_state.specs.Lent.{frame_of, frames_of, plain_time, plain_tag}
 use Rattle.buffer_state.specs.Limits.{most_tracks}
+use Rattle.buffer_state.specs.declared.Refusal.TheVariants.{IllFormed}
+use Rattle.buffer_state.specs.Refusals.{CallResult}
 use Rattle.buffer_state.specs.Store.{is_before}
 use Rattle.buffer_state.specs.WellFormed.{all_of, zero_int, good_track, good_frame, good_group, good_settings, is_sorted, distinct_numbers}
+
+-- the answer of the test: refusal 1 where it fails
+abbrev pub checked : Bool → CallResult (Unit {0})
+checked whole = cond whole (Ok tt) (Err IllFormed)
 
 -- the places of an array: those in use pass one test, those past the count another
 unfoldable pub is_placed : {A : Type 0} → (A → Bool) → (A → Bool) → ℕ → List A → Bool

@@ -1,7 +1,7 @@
 // The well-formed test on a head and two lent arrays, for whatever they hold: garbage in any field is answered, never read past or added up.
 #![tactic(auto)]
 
-ghost use Rattle.std.specs.Prelude.{◌≡◌, true, false, cond, ◌&&◌, ◌≤◌, ◌-◌, eqb, ltb, pos, length, take, drop};
+ghost use Rattle.std.specs.Prelude.{◌≡◌, Some, is_some, true, false, cond, ◌&&◌, ◌≤◌, ◌-◌, eqb, ltb, pos, length, take, drop};
 ghost use Rattle.std.specs.Int.Signed.{le_z};
 ghost use Rattle.seconds.specs.Seconds.{same_int};
 ghost use Rattle.sorting.specs.Sorting.{following};
@@ -12,10 +12,11 @@ ghost use Rattle.buffer_state.specs.Limits.{result_time, good_duration, places};
 ghost use Rattle.buffer_state.specs.Store.{is_before};
 ghost use Rattle.buffer_state.specs.WellFormed.{all_of, good_track, good_frame, good_group, converts, good_offset, good_start, good_end, good_settings};
 ghost use Rattle.numbers.specs.Numbers.{numbers_of};
-ghost use Rattle.validation.specs.Tests.{is_placed, is_zero_time, is_zero_tag, good_row, rows_from, head_test, frames_test};
+ghost use Rattle.validation.specs.Tests.{checked, is_placed, is_zero_time, is_zero_tag, good_row, rows_from, head_test, frames_test};
 
-use buffer_state::{Frame, Group, Head, PLACES, Setting, Settings, Tags, Times, Track, WindowEnd};
-use seconds::Micros;
+use buffer_state::{
+    Frame, Group, Head, PLACES, Refusal, Setting, Settings, Tags, Times, Track, WindowEnd,
+};
 
 // ---- a track
 
@@ -38,9 +39,10 @@ fn good_track(t: Track) -> bool
         return false;
     }
     if t.known {
-        return good_three(t);
+        good_three(t)
+    } else {
+        zero_three(t)
     }
-    zero_three(t)
 }
 
 fn is_zero_track(t: Track) -> bool
@@ -70,11 +72,7 @@ fn good_group(g: Group) -> bool
 fn converts_to(x: f64, z: i64) -> bool
     ensures { result ≡ converts x z }
 {
-    let m = seconds::micros_of(x);
-    match m {
-        Micros::At(y) => limits::same_int(y, z),
-        Micros::Refused => false,
-    }
+    seconds::micros_of(x) == Ok(z)
 }
 
 // The offset's double converts to it, or is the quotient that step 1 of an append keeps.
@@ -121,23 +119,20 @@ fn track_place(t: Track, used: bool) -> bool
     ensures { result ≡ cond used (good_track t) (is_zero_track t) }
 {
     if used {
-        return good_track(t);
+        good_track(t)
+    } else {
+        is_zero_track(t)
     }
-    is_zero_track(t)
 }
 
 // The tracks of a head: good up to the count, zeros past it.
 fn tracks_placed(h: Head) -> bool
     ensures { result ≡ is_placed good_track is_zero_track h.ntracks h.tracks }
 {
-    let n = h.ntracks;
-    let mut i: usize = 0;
-    while i < 4 {
-        let t = h.tracks[i];
-        if !track_place(t, i < n) {
+    for (i, t) in h.tracks.iter().enumerate() {
+        if !track_place(*t, i < h.ntracks) {
             return false;
         }
-        i += 1;
     }
     true
 }
@@ -156,17 +151,6 @@ fn good_head(h: Head) -> bool
     tracks_placed(h) & (good_group(g) & good_settings(t))
 }
 
-// ---- a row
-
-// A row has its numbers. This tells a proof so, and is no work.
-fn two(time: [i64; 2])
-    ensures { length time ≡ 2 }
-{}
-
-fn five(tag: [u32; 5])
-    ensures { length tag ≡ 5 }
-{}
-
 // ---- zeros past the count
 
 // By columns, and one test at the end: a loop without branches.
@@ -176,13 +160,9 @@ fn no_times(times: &[[i64; 2]], n: usize) -> bool
 {
     let mut a: i64 = 0;
     let mut b: i64 = 0;
-    let mut i = n;
-    while i < times.len() {
-        let t = times[i];
-        two(t);
-        a = a | t[0];
-        b = b | t[1];
-        i += 1;
+    for time in &times[n..] {
+        a |= time[0];
+        b |= time[1];
     }
     (a | b) == 0
 }
@@ -196,16 +176,12 @@ fn no_tags(tags: &[[u32; 5]], n: usize) -> bool
     let mut c: u32 = 0;
     let mut d: u32 = 0;
     let mut e: u32 = 0;
-    let mut i = n;
-    while i < tags.len() {
-        let t = tags[i];
-        five(t);
-        a = a | t[0];
-        b = b | t[1];
-        c = c | t[2];
-        d = d | t[3];
-        e = e | t[4];
-        i += 1;
+    for tag in &tags[n..] {
+        a |= tag[0];
+        b |= tag[1];
+        c |= tag[2];
+        d |= tag[3];
+        e |= tag[4];
     }
     (((a | b) | (c | d)) | e) == 0
 }
@@ -273,23 +249,8 @@ fn row_before(time: [i64; 2], tag: [u32; 5], next: [i64; 2], mark: [u32; 5]) -> 
 
 // ---- the rows in use
 
-// What one pass over the rows in use finds.
-#[derive(Clone, Copy)]
-struct Examined {
-    good: bool,
-    rising: bool, // their numbers rise, so no two are equal
-}
-
-fn faulty() -> Examined
-    ensures { (result.good ≡ false) × (result.rising ≡ false) }
-{
-    Examined {
-        good: false,
-        rising: false,
-    }
-}
-
-// Whether the rows in use are good and in store order. The row before is read again: to carry its numbers costs registers.
+// One pass over the rows in use: where they are good and in store order, whether their numbers rise, so that no two are equal.
+// The row before is read again: to carry its numbers costs registers.
 fn examine(
     times: &[[i64; 2]],
     tags: &[[u32; 5]],
@@ -297,43 +258,32 @@ fn examine(
     tracks: u32,
     last: u32,
     group: u32,
-) -> Examined
+) -> Option<bool>
     requires { (n ≤ length times.now) × (n ≤ length tags.now) }
-    ensures good_value { result.good ≡ rows_from tracks last group zero_frame (take n times.now) (take n tags.now) }
-    ensures tags_value { result.rising ≡ true → following ltb 0 (numbers_of (take n tags.now)) ≡ true }
+    ensures good_value { is_some result ≡ rows_from tracks last group zero_frame (take n times.now) (take n tags.now) }
+    ensures tags_value { result ≡ Some true → following ltb 0 (numbers_of (take n tags.now)) ≡ true }
 {
     if n == 0 {
-        return Examined {
-            good: true,
-            rising: true,
-        };
+        return Some(true);
     }
-    let first = times[0];
-    let mark = tags[0];
-    if !good_row(first, mark, tracks, last, group) {
-        return faulty();
+    if !good_row(times[0], tags[0], tracks, last, group) {
+        return None;
     }
     let mut rising = true;
-    let mut i: usize = 1;
-    while i < n {
+    for i in 1..n {
         let time = times[i];
         let tag = tags[i];
         if !good_row(time, tag, tracks, last, group) {
-            return faulty();
+            return None;
         }
-        let j = i - 1;
-        let t = times[j];
-        let g = tags[j];
+        let t = times[i - 1];
+        let g = tags[i - 1];
         if !row_before(t, g, time, tag) {
-            return faulty();
+            return None;
         }
-        rising = rising & (numbers::number_of(g) < numbers::number_of(tag));
-        i += 1;
+        rising &= numbers::number_of(g) < numbers::number_of(tag);
     }
-    Examined {
-        good: true,
-        rising: rising,
-    }
+    Some(rising)
 }
 
 // ---- the whole
@@ -355,18 +305,14 @@ fn good_frames(
     if !no_tags(tags, n) {
         return false;
     }
-    let found = examine(times, tags, n, tracks, last, group);
-    if !found.good {
-        return false;
+    match examine(times, tags, n, tracks, last, group) {
+        None => false,
+        Some(rising) => rising || numbers::distinct(&tags[..n]),
     }
-    if found.rising {
-        return true;
-    }
-    numbers::distinct(tags, n)
 }
 
-// For a caller that holds slices.
-pub fn is_well_formed(h: Head, times: &[[i64; 2]], tags: &[[u32; 5]]) -> bool
+// On slices.
+fn is_well_formed(h: Head, times: &[[i64; 2]], tags: &[[u32; 5]]) -> bool
     requires { Lengths times.now tags.now }
     ensures { result ≡ well_formed_at h times.now tags.now }
 {
@@ -383,7 +329,18 @@ pub fn is_well_formed(h: Head, times: &[[i64; 2]], tags: &[[u32; 5]]) -> bool
     good_frames(times, tags, n, tracks, last, group)
 }
 
-// The test with which every call on a state begins.
+// The test with which every call on a state begins: refusal 1 where it fails.
+pub fn check(h: &Head, times: &Times, tags: &Tags) -> Result<(), Refusal>
+    ensures { result ≡ checked (well_formed_at h.now times.now tags.now) }
+{
+    if well_formed(*h, times, tags) {
+        Ok(())
+    } else {
+        Err(Refusal::IllFormed)
+    }
+}
+
+// Whether a head and what it is lent are a well-formed state.
 pub fn well_formed(h: Head, times: &Times, tags: &Tags) -> bool
     ensures { result ≡ well_formed_at h times.now tags.now }
 {

@@ -1,13 +1,12 @@
 use Rattle.std.proofs.Common.{◌≡◌, sym, ap, ◌∙◌, [], ◌∷◌, ◌≤◌, arith, length, set}
 use Rattle.buffer_state.specs.declared.Head.{Head}
-use Rattle.buffer_state.specs.Answers.{counted, list_after}
+use Rattle.buffer_state.specs.Answers.{head_after, list_after}
 use Rattle.buffer_state.specs.Append.{Outcome}
 use Rattle.buffer_state.specs.Buffer.{Buffer}
 use Rattle.buffer_state.specs.Lent.{head_of}
 use Rattle.buffer_state.specs.Limits.{places}
 use Rattle.buffer_state.specs.Refusals.{CallResult}
 use Rattle.append.proofs.SettleLaws.{drop-result, one_line}
-use Rattle.buffer_state.specs.declared.Count.TheVariants as Count
 use Rattle.append.proofs.drop_frame.Goals as goal
 use Rattle.append.proofs.drop_frame.Goals.{Start}
 
@@ -18,9 +17,9 @@ few s b e = omega (arith, s.requires.1, ap (λ (k : Head). k.nframes) e)
 pub returns : goal.returns
 returns c =
     let a = c.args in record {
-      answer = (λ b old e q.
+      head = (λ b e q.
           let res = drop-result (record { buffer = b; frame = a.g }) a.cause q c.requires.3 (few (goal.at.returns c).Start b e) in
-          (λ j. record { answer = Count.Done 1; head = c.dropped_head-t.ensures b e j }) ∙ ap (counted old) (sym res));
+          c.dropped_head-t.ensures b e ∙ ap (λ (x : CallResult Outcome). head_after x a.h) (sym res));
       lines = (λ b e q.
           let res = drop-result (record { buffer = b; frame = a.g }) a.cause q c.requires.3 (few (goal.at.returns c).Start b e) in
           ((λ j. set a.fates.now 0 ((c.dropped_head-t.ensures b e j).last ∷ a.cause ∷ [])) ∙ one_line a.fates.now _ (omega (arith, c.requires.4)))

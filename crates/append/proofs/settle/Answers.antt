@@ -1,6 +1,7 @@
-use Rattle.std.proofs.Common.{◌≡◌, sym, ap, ◌∙◌, List, arith}
+use Rattle.std.proofs.Common.{◌≡◌, sym, ap, ◌∙◌, List, arith, w64}
+use mir.ValLaws.{to_z-of_z}
 use Rattle.buffer_state.specs.declared.Frame.{Frame}
-use Rattle.buffer_state.specs.Answers.{times_after, tags_after}
+use Rattle.buffer_state.specs.Answers.{line_count, head_after, times_after, tags_after}
 use Rattle.buffer_state.specs.Append.{Outcome, Pass}
 use Rattle.buffer_state.specs.Layout.{zero_frame, padded_list}
 use Rattle.buffer_state.specs.Lent.{times_of, tags_of, head_of}
@@ -24,7 +25,12 @@ told : (c : After-drop_cause-cause) → c.drop_cause-cause.result ≡ drop_cause
 told c = c.drop_cause-cause.ensures (pass (goal.at.After-drop_cause-cause c).Start).buffer (headed (goal.at.After-drop_cause-cause c).Start)
 
 pub store_frame-requires : goal.store_frame-requires
-store_frame-requires c = (c.requires.0, sym (told (goal.at.store_frame-requires c).After-drop_cause-cause) ∙ c.if-cause-eq0.true, c.requires.1, c.requires.2)
+store_frame-requires c = (
+  c.requires.0,
+  sym (told (goal.at.store_frame-requires c).After-drop_cause-cause) ∙ c.if-cause-eq0.true,
+  rw (to_z-of_z w64 c.args.bound c.ranges.bound) c.requires.1,
+  c.requires.2,
+)
 
 pub drop_frame-requires : goal.drop_frame-requires
 drop_frame-requires c =
@@ -35,10 +41,18 @@ drop_frame-requires c =
 pub returns : goal.returns
 returns c =
     let a = c.args in
+    let s = (goal.at.returns c).Start in
     let r = c.requires.0 in
     let e = told (goal.at.returns c).After-drop_cause-cause in
     let cause = c.drop_cause-cause.result in
     let held = lent_back a.p.head a.times.now a.tags.now r.whole in
     let few = (held-good a.p.head a.times.now a.tags.now r.whole).frames.few in
-    let same = sym (drop-frames (pass (goal.at.returns c).Start) cause) in
-    let res = sym (drop-result (pass (goal.at.returns c).Start) cause e (omega (arith, c.if-cause-eq0.false)) few) in record { answer = c.drop_frame.ensures.answer (pass (goal.at.returns c).Start).buffer a.old (headed (goal.at.returns c).Start) e; times = held.times ∙ ap (λ (fs : List Frame). times_of (padded_list places zero_frame fs)) same ∙ ap (λ (x : CallResult Outcome). times_after x a.times.now) res; tags = held.tags ∙ ap (λ (fs : List Frame). tags_of (padded_list places zero_frame fs)) same ∙ ap (λ (x : CallResult Outcome). tags_after x a.tags.now) res; lines = c.drop_frame.ensures.lines (pass (goal.at.returns c).Start).buffer (headed (goal.at.returns c).Start) e }
+    let same = sym (drop-frames (pass s) cause) in
+    let res = sym (drop-result (pass s) cause e (omega (arith, c.if-cause-eq0.false)) few) in
+    record {
+      answer = ap line_count res;
+      head = c.drop_frame.ensures.head (pass s).buffer (headed s) e ∙ ap (λ (x : CallResult Outcome). head_after x a.p.head) (sym res) ∙ ap (λ (x : CallResult Outcome). head_after x a.h.now) res;
+      times = held.times ∙ ap (λ (fs : List Frame). times_of (padded_list places zero_frame fs)) same ∙ ap (λ (x : CallResult Outcome). times_after x a.times.now) res;
+      tags = held.tags ∙ ap (λ (fs : List Frame). tags_of (padded_list places zero_frame fs)) same ∙ ap (λ (x : CallResult Outcome). tags_after x a.tags.now) res;
+      lines = c.drop_frame.ensures.lines (pass s).buffer (headed s) e;
+    }

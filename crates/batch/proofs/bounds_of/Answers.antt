@@ -31,16 +31,16 @@ fits : (c : After-frame_at-g) → SFits w64 c.frame_at-g.result.pts
 fits c = search rules
 
 -- it is presented before the bound that its track has now
-past : (c : After-later) → lt_z c.frame_at-g.result.pts c.later.result.micros ≡ true
+past : (c : After-later) → lt_z c.frame_at-g.result.pts c.later.result ≡ true
 past c =
     let z = c.frame_at-g.result.pts in
     let next : c.next_micro.result ≡ z +ℤ pos 1 = told z (fits (goal.at.After-later c).After-frame_at-g) (λ y. y +ℤ pos 1) c.next_micro.ensures in
     let back : to_z w64 (of_z w64 c.next_micro.result) ≡ z +ℤ pos 1 = ap (λ (y : ℤ). to_z w64 (of_z w64 y)) next ∙ to_z-of_z w64 (z +ℤ pos 1) (next_fits z (shown (goal.at.After-later c).After-frame_at-g)) in
-    let high : le_z (z +ℤ pos 1) c.later.result.micros ≡ true = ap (λ (y : ℤ). le_z y c.later.result.micros) (sym back) ∙ c.later.ensures.1 in
-    lt_test (lt-le (lt-add z 1 (omega arith)) (test-le {a = z +ℤ pos 1} {b = c.later.result.micros} high))
+    let high : le_z (z +ℤ pos 1) c.later.result ≡ true = ap (λ (y : ℤ). le_z y c.later.result) (sym back) ∙ c.later.ensures.1 in
+    lt_test (lt-le (lt-add z 1 (omega arith)) (test-le {a = z +ℤ pos 1} {b = c.later.result} high))
 
 pub loop-i-init : goal.loop-i-init
-loop-i-init c = (omega arith, none-bounded _ refl)
+loop-i-init c = none-bounded _ refl
 
 pub frame_at-g-requires : goal.frame_at-g-requires
 frame_at-g-requires c =
@@ -61,11 +61,13 @@ pub loop-i-preserved : goal.loop-i-preserved
 loop-i-preserved c =
     let a = c.args in
     let fs = frames_of a.times.now a.tags.now in
-    let here = c.frame_at-g.ensures in (
-      omega (arith, c.loop-i-test.true),
-      subst (λ (g : Frame). IsBounded (set c.loop-i.bounds g.track c.later.result) (take (c.loop-i.i + 1) fs)) (sym here)
-          (bounded-more c.loop-i.bounds fs c.loop-i.i c.later.result (omega (arith, c.loop-i-test.true, stored-long a.h a.times.now a.tags.now c.requires))
-          (subst (λ (g : Frame). g.track < 5) here (on (goal.at.loop-i-preserved c).After-frame_at-g))
-          (subst (λ (g : Frame). le_z (bound_at c.loop-i.bounds g.track) c.later.result.micros ≡ true) here c.later.ensures.0)
-          (subst (λ (g : Frame). lt_z g.pts c.later.result.micros ≡ true) here (past c)) c.loop-i.invariant.1),
-    )
+    let here = c.frame_at-g.ensures in
+    let new : to_z w64 (of_z w64 c.later.result) ≡ c.later.result = to_z-of_z w64 c.later.result (search rules) in
+    let before : SFits w64 (bound_at c.loop-i.bounds c.frame_at-g.result.track) = search rules in
+    let old = to_z-of_z w64 _ before in
+    subst (λ (z : ℤ). IsBounded (set c.loop-i.bounds c.frame_at-g.result.track z) (take (c.loop-i.i + 1) fs)) (sym new)
+    (subst (λ (g : Frame). IsBounded (set c.loop-i.bounds g.track c.later.result) (take (c.loop-i.i + 1) fs)) (sym here)
+    (bounded-more c.loop-i.bounds fs c.loop-i.i c.later.result (omega (arith, c.loop-i-test.true, stored-long a.h a.times.now a.tags.now c.requires))
+    (subst (λ (g : Frame). g.track < 5) here (on (goal.at.loop-i-preserved c).After-frame_at-g))
+    (subst (λ (g : Frame). le_z (bound_at c.loop-i.bounds g.track) c.later.result ≡ true) here (ap (λ (z : ℤ). le_z z c.later.result) (sym old) ∙ c.later.ensures.0))
+    (subst (λ (g : Frame). lt_z g.pts c.later.result ≡ true) here (past (goal.at.loop-i-preserved c).After-later)) c.loop-i.invariant))

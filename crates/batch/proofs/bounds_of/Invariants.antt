@@ -1,10 +1,7 @@
-use Rattle.std.proofs.Common.{◌-◌, ◌≤◌, take}
+use Rattle.std.proofs.Common.{take}
 use Rattle.buffer_state.specs.Lent.{frames_of}
 use Rattle.batch.specs.Bounds.{IsBounded}
 use Rattle.batch.proofs.bounds_of.Given as goal
 
 abbrev pub invariant-loop-i : goal.invariant-loop-i
-invariant-loop-i l = (l.i ≤ l.n) × IsBounded l.bounds (take l.i (frames_of l.times l.tags))
-
-abbrev pub decreases-loop-i : goal.decreases-loop-i
-decreases-loop-i l = l.n - l.i
+invariant-loop-i l = IsBounded l.bounds (take l.i (frames_of l.times l.tags))

@@ -1,4 +1,4 @@
-use Rattle.std.proofs.Common.{◌≡◌, ap, ◌∙◌, ℕ, ◌+◌, ◌-◌, ◌≤◌, arith, length, get_or}
+use Rattle.std.proofs.Common.{◌≡◌, refl, ◌∙◌, ℕ, ◌+◌, ◌-◌, ◌≤◌, arith, length, get_or}
 use Rattle.call_rows.specs.Encoded.{of_lines, of_ranges}
 use Rattle.call_rows.specs.Replies.{lent}
 use Rattle.call_list.proofs.PartLaws.{called_at, walked_at}
@@ -6,10 +6,10 @@ use Rattle.call_list.proofs.call_at.Goals as goal
 use Rattle.call_list.proofs.call_at.Goals.{After-of_lines, After-of_ranges}
 
 lines-asked : (c : After-of_lines) → let a = c.args in c.of_lines.result ≡ of_lines (get_or a.row 0 0) (get_or a.row 4 0)
-lines-asked c = c.of_lines.ensures ∙ ap (of_lines (get_or c.args.row 0 0)) c.wide-places.ensures
+lines-asked c = c.of_lines.ensures
 
 ranges-asked : (c : After-of_ranges) → let a = c.args in c.of_ranges.result ≡ of_ranges (get_or a.row 0 0) (get_or a.row 4 0)
-ranges-asked c = c.of_ranges.ensures ∙ ap (of_ranges (get_or c.args.row 0 0)) c.wide-places.ensures
+ranges-asked c = c.of_ranges.ensures
 
 lines-within : (c : After-of_lines) → let a = c.args in a.at + c.of_lines.result ≤ length a.lines.now
 lines-within c = omega (arith, lines-asked c)
@@ -20,8 +20,8 @@ ranges-within c = omega (arith, ranges-asked c)
 pub returns-then-kind-eq-WALKED : goal.returns-then-kind-eq-WALKED
 returns-then-kind-eq-WALKED c =
     let a = c.args in
-    walked_at a.row a.stamps a.seconds a.frames.now (lent a.h a.times.now a.tags.now) c.walked_step.result a.lines.now a.at a.list.now a.placed c.wide-places.result
-    c.if-kind-eq-WALKED.true c.wide-places.ensures c.walked_step.ensures
+    walked_at a.row a.stamps a.seconds a.frames.now (lent a.h a.times.now a.tags.now) c.walked_step.result a.lines.now a.at a.list.now a.placed (get_or a.row 4 0)
+    c.if-kind-eq-WALKED.true refl c.walked_step.ensures
 
 pub returns : goal.returns
 returns c =

@@ -1,25 +1,11 @@
-use Rattle.std.proofs.Common.{◌≡◌, sym, ap, ◌∙◌, [], ℕ, ◌-◌, add-one, get_or, rules}
+use Rattle.std.proofs.Common.{◌≡◌, sym, ◌∙◌, ◌-◌, [], add-one, get_or}
 use Rattle.call_list.specs.Listed.{offers_of_row}
-use Rattle.call_list.proofs.ClaimLaws.{rows-stop, rows_step, rows_end}
+use Rattle.call_list.proofs.ClaimLaws.{rows_step}
 use Rattle.call_list.proofs.rows_fit.Goals as goal
 
-pub returns-then-not-row_fits : goal.returns-then-not-row_fits
-returns-then-not-row_fits c =
+pub loop-row-preserved : goal.loop-row-preserved
+loop-row-preserved c =
     let a = c.args in
-    sym (rows-stop a.frames c.loop-i.room a.calls.now c.loop-i.i c.loop-i-test.true (sym c.row_fits.ensures ∙ c.if-not-row_fits.true))
-    ∙ c.loop-i.invariant.1
-
-pub loop-i-preserved : goal.loop-i-preserved
-loop-i-preserved c =
-    let a = c.args in
-    let l = c.args.calls.now in
-    let i = c.loop-i.i in
-    let left : c.less-room.result ≡ c.loop-i.room - offers_of_row (get_or l i []) = c.less-room.ensures ∙ ap (λ (n : ℕ). c.loop-i.room - n) c.offers_of_row.ensures in (
-      search rules,
-      rw (add-one, left) (sym (rows_step a.frames c.loop-i.room l i c.loop-i-test.true (sym c.row_fits.ensures ∙ c.if-not-row_fits.false)) ∙ c.loop-i.invariant.1),
-    )
-
-pub returns : goal.returns
-returns c =
-    let a = c.args in
-    sym (rows_end a.frames c.loop-i.room a.calls.now c.loop-i.i c.loop-i-test.false) ∙ c.loop-i.invariant.1
+    let i = c.loop-row.row-index in
+    let left : c.saturating_sub-room.result ≡ c.loop-row.room - offers_of_row (get_or a.calls.now i []) = rw c.offers_of_row.ensures at c.saturating_sub-room.ensures in
+    rw (add-one, left) (sym (rows_step a.frames c.loop-row.room a.calls.now i c.loop-row-test.true (sym c.row_fits.ensures ∙ c.if-not-row_fits.false)) ∙ c.loop-row.invariant)

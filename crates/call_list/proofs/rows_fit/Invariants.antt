@@ -1,9 +1,6 @@
-use Rattle.std.proofs.Common.{◌≡◌, ◌-◌, ◌≤◌, length, drop}
+use Rattle.std.proofs.Common.{◌≡◌, drop}
 use Rattle.call_list.specs.Listed.{rows_fit}
 use Rattle.call_list.proofs.rows_fit.Given as goal
 
-abbrev pub invariant-loop-i : goal.invariant-loop-i
-invariant-loop-i l = (l.i ≤ length l.calls) × (rows_fit l.frames l.room (drop l.i l.calls) ≡ rows_fit l.frames l.lines l.calls)
-
-abbrev pub decreases-loop-i : goal.decreases-loop-i
-decreases-loop-i l = length l.calls - l.i
+abbrev pub invariant-loop-row : goal.invariant-loop-row
+invariant-loop-row l = rows_fit l.frames l.room (drop l.row-index l.calls) ≡ rows_fit l.frames l.lines l.calls

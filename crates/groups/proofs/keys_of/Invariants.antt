@@ -1,10 +1,7 @@
-use Rattle.std.proofs.Common.{◌-◌, ◌≤◌, ◌≡◌, length}
+use Rattle.std.proofs.Common.{◌≡◌, length}
 use Rattle.sorting.specs.Sorting.{most}
 use Rattle.groups.specs.Groups.{IsKeyed}
 use Rattle.groups.proofs.keys_of.Given as goal
 
 abbrev pub invariant-loop-i : goal.invariant-loop-i
-invariant-loop-i l = (l.first ≤ l.i) × (l.i ≤ l.n) × (length l.keys ≡ most) × IsKeyed l.tags l.first l.i l.keys
-
-abbrev pub decreases-loop-i : goal.decreases-loop-i
-decreases-loop-i l = l.n - l.i
+invariant-loop-i l = (length l.keys ≡ most) × IsKeyed l.tags l.first l.i l.keys

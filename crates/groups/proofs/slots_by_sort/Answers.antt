@@ -17,4 +17,4 @@ pub returns : goal.returns
 returns c =
     let s = start (goal.at.returns c).After-other-2-1 in
     let a = s.args in
-    ranked a.tags.now a.first a.n s.requires.2 c.keys_of-keys.result _ c.loop-i.slots c.keys_of-keys.ensures (keys-long (goal.at.returns c).After-keys_of-keys) (sort-long (goal.at.returns c).After-sort) c.sort.ensures (λ j b h. c.loop-i.invariant.3 j b (omega (arith, c.loop-i-test.false)))
+    ranked a.tags.now a.first a.n s.requires.2 c.keys_of-keys.result _ c.loop-i.slots c.keys_of-keys.ensures (keys-long (goal.at.returns c).After-keys_of-keys) (sort-long (goal.at.returns c).After-sort) c.sort.ensures (λ j b h. c.loop-i.invariant.1 j b (omega (arith, c.loop-i-test.false)))

@@ -1,5 +1,4 @@
 use Rattle.std.proofs.Common.{◌≡◌, sym, ap, subst, ◌∙◌, false, ◌&&◌, ◌≤◌}
-use borrow.Author.Tests.{not-true}
 use lib.Signed.{mag}
 use Rattle.buffer_state.specs.declared.Head.{Head}
 use Rattle.buffer_state.specs.declared.Offered.{Offered}
@@ -9,7 +8,7 @@ use Rattle.buffer_state.specs.Lent.{head_of}
 use Rattle.heads.specs.Heads.{HasTrack, IsCalm}
 use Rattle.heads.proofs.FitLaws.{offered-pts}
 use Rattle.heads.proofs.HeadLaws.{head-good, one-offset}
-use Rattle.heads.proofs.PassLaws.{still, calm}
+use Rattle.heads.proofs.PassLaws.{still, calm, some-same}
 use Rattle.heads.proofs.steady_frame.Goals as goal
 use Rattle.heads.proofs.steady_frame.Goals.{Else-begins}
 
@@ -37,9 +36,10 @@ breaks-requires c =
 
 pub returns : goal.returns
 returns c =
-    λ b e ok.
+    λ b e g some.
     let f = c.args.f in
     let two = c.step_two-g.ensures b e in
     let fit = ap (λ (x : Offered). fits (record { buffer = b; frame = x })) (sym two) ∙ sym (c.fits.ensures b e) ∙ c.if-not-fits.false in
-    let unbroken = ap (λ (x : Offered). breaks (record { buffer = b; frame = x })) (sym two) ∙ sym (c.breaks.ensures b e) ∙ not-true _ ok in
-    subst (IsCalm b f) (sym two) (calm b f (begun-held (goal.at.returns c).Else-begins b e) fit unbroken)
+    let unbroken = ap (λ (x : Offered). breaks (record { buffer = b; frame = x })) (sym two) ∙ sym (c.breaks.ensures b e) ∙ c.if-breaks.false in
+    let same : g ≡ step_two b f = sym (some-same some) ∙ two in
+    subst (IsCalm b f) (sym same) (calm b f (begun-held (goal.at.returns c).Else-begins b e) fit unbroken)

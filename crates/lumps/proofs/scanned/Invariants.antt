@@ -1,9 +1,8 @@
-use Rattle.std.proofs.Common.{◌-◌, length}
-use Rattle.lumps.specs.Scans.{Standing}
+use Rattle.std.proofs.Common.{◌≡◌, ◌-◌, length}
 use Rattle.lumps.proofs.scanned.Given as goal
 
-abbrev pub invariant-loop-s : goal.invariant-loop-s
-invariant-loop-s l = Standing l.initial.s.reader l.lump l.s
+abbrev pub invariant-loop-scan : goal.invariant-loop-scan
+invariant-loop-scan l = (l.scan.start ≡ l.fn.start) × (l.scan.lump.now ≡ l.lump)
 
-abbrev pub decreases-loop-s : goal.decreases-loop-s
-decreases-loop-s l = length l.lump - l.s.next
+abbrev pub decreases-loop-scan : goal.decreases-loop-scan
+decreases-loop-scan l = length l.lump - l.scan.next

@@ -11,18 +11,16 @@ use Rattle.ranges.proofs.keys_of.Goals.{In-loop-k}
 inside : (c : In-loop-k) → c.args.first + c.loop-k.k < places
 inside c = omega (arith, c.requires.1, c.loop-k-test.true)
 
-pub key_of-key-requires : goal.key_of-key-requires
-key_of-key-requires c =
+pub key_of-requires : goal.key_of-requires
+key_of-requires c =
     let fs = frames_of c.args.times.now c.args.tags.now in
     let f = get_or fs (c.args.first + c.loop-k.k) zero_frame in
-    (ap is_timely c.frame_at-f.ensures ∙ and_left (is_timely f) _ (up-sound fs c.args.first c.args.count c.requires.3 c.loop-k.k c.loop-k-test.true), inside (goal.at.key_of-key-requires c).In-loop-k)
+    (ap is_timely c.frame_at.ensures ∙ and_left (is_timely f) _ (up-sound fs c.args.first c.args.count c.requires.3 c.loop-k.k c.loop-k-test.true), inside (goal.at.key_of-requires c).In-loop-k)
 
 pub loop-k-preserved : goal.loop-k-preserved
 loop-k-preserved c =
-    let h : c.loop-k.k < c.args.count = c.loop-k-test.true in (
-      omega (arith, h),
-      one-keyed c.loop-k.invariant.1 h (omega (arith, inside (goal.at.loop-k-preserved c).In-loop-k)) _ (c.key_of-key.ensures ∙ ap (key_of (c.args.first + c.loop-k.k)) c.frame_at-f.ensures),
-    )
+    one-keyed c.loop-k.invariant c.loop-k-test.true (omega (arith, inside (goal.at.loop-k-preserved c).In-loop-k)) _
+    (c.key_of.ensures ∙ ap (key_of (c.args.first + c.loop-k.k)) c.frame_at.ensures)
 
 pub returns : goal.returns
-returns c = all-keyed c.loop-k.invariant.1 (omega arith) c.loop-k.invariant.0
+returns c = all-keyed c.loop-k.invariant (omega arith) (omega arith)

@@ -8,4 +8,4 @@ use Rattle.ranges.proofs.track_bars.Goals as goal
 pub returns : goal.returns
 returns c =
     let fs = stored c.args.times.now c.args.tags.now c.args.n in
-    all_shown c.track_walk-w.result.ranges c.track_walk-w.ensures.bars (omega (arith, track-few c.args.track fs, stored-length c.requires.0, c.requires.0.few))
+    all_shown c.track_walk.result.ranges c.track_walk.ensures.bars (omega (arith, track-few c.args.track fs, stored-length c.requires.0, c.requires.0.few))

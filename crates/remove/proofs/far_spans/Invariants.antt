@@ -1,13 +1,8 @@
-use Rattle.std.proofs.Common.{◌≡◌, ◌≤◌, length, take, drop, get_or}
+use Rattle.std.proofs.Common.{◌≡◌, ◌≤◌, length, take, drop}
 use Rattle.buffer_state.specs.Lent.{frames_of}
-use Rattle.buffer_state.specs.Limits.{places}
-use Rattle.taking.specs.Taking.{no_span}
-use Rattle.taking.specs.Loss.{bound_in}
-use Rattle.remove.specs.Edges.{FarSpans}
+use Rattle.remove.specs.Edges.{bound_at, FarSpans}
 use Rattle.remove.proofs.far_spans.Given as goal
 
+-- the edges among the frames from i on
 abbrev pub invariant-loop-i : goal.invariant-loop-i
-invariant-loop-i l = (l.i ≤ l.initial.i) × (l.initial.i ≤ places) × (length l.spans ≡ 5) × FarSpans (get_or l.initial.spans 0 no_span).start (bound_in l.end) (drop l.i (take l.initial.i (frames_of l.times l.tags))) l.spans
-
-abbrev pub decreases-loop-i : goal.decreases-loop-i
-decreases-loop-i l = l.i
+invariant-loop-i l = (length l.spans ≡ 5) × FarSpans l.fn.whole.start (bound_at l.end) (drop l.i (take l.fn.h.nframes (frames_of l.times l.tags))) l.spans

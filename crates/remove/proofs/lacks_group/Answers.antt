@@ -14,9 +14,9 @@ mark-causes-requires c =
     let w = c.requires.0 in
     ((laid a.h a.times.now a.tags.now w).nframes, long a.h a.times.now a.tags.now w, on-tracks a.h a.times.now a.tags.now w, omega arith, c.requires.1.inside, c.requires.1.before)
 
-pub loss_of-lost-requires : goal.loss_of-lost-requires
-loss_of-lost-requires c =
+pub loss_of-requires : goal.loss_of-requires
+loss_of-requires c =
     let a = c.args in
     let w = c.requires.0 in
     let l = (laid a.h a.times.now a.tags.now w).nframes in
-    (l, long a.h a.times.now a.tags.now w, on-tracks a.h a.times.now a.tags.now w, omega (arith, l, causes-long (goal.at.loss_of-lost-requires c).After-mark-causes), c.requires.1.inside, c.mark-causes.ensures.before)
+    (l, long a.h a.times.now a.tags.now w, on-tracks a.h a.times.now a.tags.now w, omega (arith, l, causes-long (goal.at.loss_of-requires c).After-mark-causes), c.requires.1.inside, c.mark-causes.ensures.before)

@@ -1,15 +1,7 @@
-use Rattle.std.proofs.Common.{◌≡◌, sym, ap, ◌∙◌, not, ℕ, ◌*◌, ◌%◌, leb, ltb, ltb-true, ltb-false, le-leb}
-use lib.Ieee.{binary64, hid, ones, top}
-use lib.Ieee.Bits.{nan_bits_above}
-use borrow.Author.Tests.{lt-leb}
-use Rattle.laws.proofs.BoolLaws.{split}
+use Rattle.std.proofs.Common.{sym, ap, ◌∙◌, not}
+use lib.Ieee.{binary64, is_nan}
+use lib.Ieee.Bits.{nan_bits_is}
 use Rattle.seconds.proofs.is_number.Goals as goal
 
-not-above : (a b : ℕ) → leb a b ≡ not (ltb b a)
-not-above a b =
-    split (ltb b a)
-    (λ h. lt-leb a b (ltb-true b a h) ∙ sym (ap not h))
-    (λ h. le-leb a b (ltb-false b a h) ∙ sym (ap not h))
-
 pub returns : goal.returns
-returns c = let n = c.args.bits in not-above (n % top binary64) (ones binary64 * hid binary64) ∙ ap not (sym (nan_bits_above binary64 n))
+returns c = ap not (c.is_nan.ensures.value ∙ ap is_nan c.f64_from_bits_with_nan.ensures ∙ sym (nan_bits_is binary64 c.args.bits))

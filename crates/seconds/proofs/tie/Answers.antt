@@ -6,6 +6,6 @@ pub returns-then-negative : goal.returns-then-negative
 unfolding tie_of
 returns-then-negative c = sym (ap (λ (s : Bool). tie_of s c.args.whole) c.if-negative.true)
 
-pub returns : goal.returns
+pub returns-else-negative : goal.returns-else-negative
 unfolding tie_of
-returns c = sym (ap (λ (s : Bool). tie_of s c.args.whole) c.if-negative.false)
+returns-else-negative c = sym (ap (λ (s : Bool). tie_of s c.args.whole) c.if-negative.false)

@@ -5,10 +5,8 @@ use Rattle.seek.specs.Places.{same_group}
 use Rattle.seek.proofs.WalkLaws.{start_with}
 use Rattle.seek.proofs.walk_back.Given as goal
 
+-- what the frames before i come to, with those that were walked, is what all up to the place come to
 abbrev pub invariant-loop-i : goal.invariant-loop-i
 invariant-loop-i l =
     let fs = frames_of l.times l.tags in
     (l.count + l.i ≤ l.at + 1) × (start_by l.f (from_flagged (same_group l.f (take (l.at + 1) fs))) ≡ start_with l.count l.f (from_flagged (same_group l.f (take l.i fs))))
-
-abbrev pub decreases-loop-i : goal.decreases-loop-i
-decreases-loop-i l = l.i

@@ -1,14 +1,13 @@
 use Rattle.std.proofs.Common.{refl, length}
-use Rattle.boxes.proofs.LoneLaws.{lone-none, lone-body}
-use Rattle.segments.proofs.ListedLaws.{segment-by-movie}
+use Rattle.segments.proofs.ListedLaws.{is_refused, segment-by-movie}
 use Rattle.segments.proofs.list_whole.Goals as goal
 
-pub returns-in-None : goal.returns-in-None
-returns-in-None c =
+pub returns-in_err-lone : goal.returns-in_err-lone
+returns-in_err-lone c =
     let a = c.args in
-    rw (segment-by-movie a.of (length a.list.now) a.s.now, lone-none _ _ _ c.lone.ensures.0 c.in-None.is) (record { value = refl; list_after = refl })
+    rw (segment-by-movie a.of (length a.list.now) a.s.now, c.in_err-lone.ensures, is_refused c.from_residual.result c.from_residual.ensures.0 c.from_residual.ensures.1) (record { value = refl; list_after = refl })
 
-pub returns-in-Is : goal.returns-in-Is
-returns-in-Is c =
+pub returns : goal.returns
+returns c =
     let a = c.args in
-    rw (segment-by-movie a.of (length a.list.now) a.s.now, lone-body _ _ _ _ _ c.lone.ensures.0 c.in-Is.is) c.list_movie.ensures
+    rw (segment-by-movie a.of (length a.list.now) a.s.now, c.in_ok-lone.ensures) c.list_movie.ensures

@@ -1,4 +1,4 @@
-use Rattle.std.proofs.Common.{◌≡◌, sym, ap, ◌∙◌, subst, true, List, [], ◌++◌, append-nil, ℕ, ◌+◌, ◌*◌, ◌≤◌, arith, pos, length}
+use Rattle.std.proofs.Common.{◌≡◌, refl, Some, sym, ap, ◌∙◌, subst, true, List, [], ◌++◌, append-nil, ℕ, ◌+◌, ◌*◌, ◌≤◌, arith, pos, length}
 use Rattle.laws.proofs.BoolLaws.{clash}
 use Rattle.buffer_state.specs.WellFormed.{all_of}
 use Rattle.fragments.specs.Runs.{samples_from}
@@ -6,7 +6,7 @@ use Rattle.media_times.specs.MediaTimes.{good_scale, in_limits}
 use Rattle.media_times.specs.declared.Sample.{Sample}
 use Rattle.media_times.proofs.EvenLaws.{evenly-ends}
 use Rattle.segments.specs.Listings.{total}
-use Rattle.segments.specs.Walks.{Standing}
+use Rattle.segments.specs.Walks.{Known, known, Standing}
 use Rattle.segments.proofs.EvenRunLaws.{no-samples, even-total, even-limits, run-lost, run_moved}
 use Rattle.segments.proofs.StandLaws.{moved-time}
 use Rattle.segments.proofs.WalkLaws.{somewhere-count, somewhere-scale}
@@ -18,10 +18,10 @@ abbrev all : Start → List Sample
 all c = let a = c.args in samples_from a.d a.r a.b.now 0 a.r.count a.w.time
 
 scale : (c : Start) → good_scale c.args.of.timescale ≡ true
-scale c = let a = c.args in somewhere-scale a.of a.write a.w a.list.now c.requires.1.1.1 c.requires.1.1.0
+scale c = let a = c.args in somewhere-scale a.of a.write (known (Some a.w)) a.list.now c.requires.1.1 refl
 
 counted : (c : Start) → c.args.w.count ≤ length c.args.list.now
-counted c = let a = c.args in somewhere-count a.of a.write a.w a.list.now c.requires.1.1.1
+counted c = let a = c.args in somewhere-count a.of a.write (known (Some a.w)) a.list.now c.requires.1.1
 
 -- one of them
 begins : (c : After-even_sample-s) → c.even_sample-s.result.time ≡ c.args.w.time
@@ -58,7 +58,7 @@ lasts c =
 pub returns-then-count-eq0 : goal.returns-then-count-eq0
 returns-then-count-eq0 c =
     let a = c.args in
-    let e : all (goal.at.returns-then-count-eq0 c).Start ≡ [] = no-samples a.d a.r a.b.now a.r.count a.w.time c.if-count-eq0.true in record { stands = (λ before l st. subst (λ (x : List Sample). Standing a.of a.write before (l ++ x) a.w a.list.now) (sym e) (rw (append-nil l) st)); timed = λ _. let f : total (all (goal.at.returns-then-count-eq0 c).Start) ≡ 0 = ap (λ (x : List Sample). total x) e in omega (arith, f) }
+    let e : all (goal.at.returns-then-count-eq0 c).Start ≡ [] = no-samples a.d a.r a.b.now a.r.count a.w.time c.if-count-eq0.true in record { stands = (λ before l st. subst (λ (x : List Sample). Standing a.of a.write before (l ++ x) (known (Some a.w)) a.list.now) (sym e) (rw (append-nil l) st)); timed = λ _. let f : total (all (goal.at.returns-then-count-eq0 c).Start) ≡ 0 = ap (λ (x : List Sample). total x) e in omega (arith, f) }
 
 pub evenly_in_limits-requires : goal.evenly_in_limits-requires
 evenly_in_limits-requires c = (scale (goal.at.evenly_in_limits-requires c).Start, offset c)
@@ -67,8 +67,7 @@ pub returns-then-not-evenly_in_limits : goal.returns-then-not-evenly_in_limits
 returns-then-not-evenly_in_limits c =
     let a = c.args in
     let out = sym (judged (goal.at.returns-then-not-evenly_in_limits c).After-evenly_in_limits) ∙ c.if-not-evenly_in_limits.true in
-    rw c.lost.ensures
-    (record { stands = (λ before l st. run-lost a.of a.write before l a.w a.list.now st a.d a.r a.b.now a.w.time out); timed = λ g. clash (sym g) })
+    record { stands = (λ before l st. run-lost a.of a.write before l (known (Some a.w)) a.list.now st a.d a.r a.b.now a.w.time out); timed = λ g. clash (sym g) }
 
 pub overflow_sub-list : goal.overflow_sub-list
 overflow_sub-list c = counted (goal.at.overflow_sub-list c).Start
@@ -78,16 +77,18 @@ time_after-requires c = rw (sym (begins (goal.at.time_after-requires c).After-ev
 
 pub moved-requires : goal.moved-requires
 moved-requires c =
-    let s = c.requires.1.1.1 in
+    let s = c.requires.1.1 in
     rw ((c.walk_samples.ensures.stands s.before s.samples s.standing).places ∙ sym s.standing.places) (counted (goal.at.moved-requires c).Start)
 
 pub returns : goal.returns
 returns c =
     let a = c.args in
     let t = a.w.time + a.r.count * c.even_sample-s.result.duration in
-    rw (c.moved.ensures, c.time_after.ensures) (record {
+    let m = rw c.time_after.ensures at c.moved.ensures in
+    record {
       stands = (λ before l st.
-          run_moved a.of a.write before l a.w a.list.now st a.d a.r a.b.now a.w.time c.rows_for-n.result c.rows_for-n.ensures.1 _ _ t c.requires.1.1.0 (inside (goal.at.returns c).Else-not-evenly_in_limits)
-          c.rows_for-n.ensures.0 (c.walk_samples.ensures.stands before l st));
-      timed = λ _. moved-time _ a.w a.r.count t ∙ lasts (goal.at.returns c).Else-not-evenly_in_limits;
-    })
+          rw m
+          (run_moved a.of a.write before l (known (Some a.w)) a.list.now st a.d a.r a.b.now a.w.time c.rows_for-n.result c.rows_for-n.ensures.1 _ _ t refl (inside (goal.at.returns c).Else-not-evenly_in_limits)
+          c.rows_for-n.ensures.0 (c.walk_samples.ensures.stands before l st)));
+      timed = λ _. ap (λ (k : Known). k.time) m ∙ (moved-time _ (known (Some a.w)) a.r.count t ∙ lasts (goal.at.returns c).Else-not-evenly_in_limits);
+    }

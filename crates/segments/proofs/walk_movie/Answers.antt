@@ -1,50 +1,45 @@
-use Rattle.std.proofs.Common.{refl, sym, ap, ◌∙◌, ◌++◌, ◌-◌, take, drop, eq-eqb, ne_eqb}
-use Rattle.boxes.proofs.BoxLaws.{Opened, opened}
+use Rattle.std.proofs.Common.{refl, ap, ◌++◌, eq-eqb}
 use Rattle.segments.specs.Listings.{joined_listing, fragment_listing, with_fragment, movie_listing}
-use Rattle.segments.proofs.FurtherLaws.{between-end, between-bad, between-malformed, between-other, between_more}
+use Rattle.segments.specs.Walks.{known}
+use Rattle.segments.proofs.FurtherLaws.{reached-bad, between_start, between-end, between-bad, between-malformed, between_more}
 use Rattle.segments.proofs.walk_movie.Goals as goal
-use Rattle.segments.proofs.walk_movie.Goals.{In-Found}
 
--- what `next` found opens the boxes that are left
-turn : (c : In-Found) → Opened c.args.s.now c.loop-kind.c c.in-Found.kind c.in-Found.start c.in-Found.end c.in-Found.n
-turn c = opened _ _ _ _ _ _ c.loop-kind.invariant.0 (sym c.next-f.ensures ∙ c.in-Found.is)
-
-pub returns-in-End : goal.returns-in-End
-unfolding movie_listing
-returns-in-End c =
+pub loop-part-init : goal.loop-part-init
+loop-part-init c =
     let a = c.args in
-    between-end a.of a.write a.w a.list.now (with_fragment a.of) a.s.now c.loop-kind.c c.loop-kind.v c.loop-kind.list c.loop-kind.invariant.1 (sym c.next-f.ensures ∙ c.in-End.is)
+    rw (c.into_iter-part-iterator.ensures.into_iter_gives, c.new-part-items.ensures) (between_start a.of a.write (known a.w) a.list.now (with_fragment a.of) a.s.now)
 
-pub returns-in-Bad : goal.returns-in-Bad
+pub returns-in_err-part : goal.returns-in_err-part
 unfolding movie_listing
-returns-in-Bad c before m st =
+returns-in_err-part c before m st =
     let a = c.args in
-    (between-bad a.of a.write a.w a.list.now (with_fragment a.of) a.s.now c.loop-kind.c c.loop-kind.v c.loop-kind.list c.loop-kind.invariant.1 (sym c.next-f.ensures ∙ c.in-Bad.is), (c.loop-kind.invariant.1.stands before m st).judging)
+    let b = c.loop-part.invariant in
+    let bad = between-bad a.of a.write (known a.w) a.list.now (with_fragment a.of) a.s.now _ (known c.loop-part.v) c.loop-part.list b _ _ (rw c.in_err-part.was at c.in-Some.ensures.steps) in
+    reached-bad a.of a.write before c.loop-part.list m _ c.from_residual.result c.from_residual.ensures.0 bad (b.stands before m st).judging
 
-pub returns-in-Malformed : goal.returns-in-Malformed
+pub returns-in_err-v : goal.returns-in_err-v
 unfolding movie_listing
-returns-in-Malformed c before m st =
+returns-in_err-v c before m st =
     let a = c.args in
-    let b = c.loop-kind.invariant.1 in
-    let r = rw c.in-Malformed.is at (c.walk_fragment-q.ensures before (m ++ b.done) (b.stands before m st)) in
-    (between-malformed a.of a.write a.w a.list.now (with_fragment a.of) a.s.now c.loop-kind.c c.loop-kind.v c.loop-kind.list b _ _ _ _ (turn (goal.at.returns-in-Malformed c).In-Found) (λ x. refl) (rw (eq-eqb _ _ c.if-kind-eq-TRAF.true) (ap (joined_listing b.done) r.0)), r.1)
+    let b = c.loop-part.invariant in
+    let r = c.in_err-v.ensures before (m ++ b.done) (b.stands before m st) in
+    let bad = between-malformed a.of a.write (known a.w) a.list.now (with_fragment a.of) a.s.now _ (known c.loop-part.v) c.loop-part.list b _ _ (rw c.in_ok-part.was at c.in-Some.ensures.steps)
+    (λ x. refl) (rw (eq-eqb _ _ c.if-part-eq-TRAF.true) (ap (joined_listing b.done) r.0)) in
+    reached-bad a.of a.write before c.walk_fragment.new.list m _ c.from_residual-in_err-v.result c.from_residual-in_err-v.ensures.0 bad r.1
 
-pub loop-kind-preserved-in-Upto : goal.loop-kind-preserved-in-Upto
-loop-kind-preserved-in-Upto c =
+pub loop-part-preserved-then-part-eq-TRAF : goal.loop-part-preserved-then-part-eq-TRAF
+loop-part-preserved-then-part-eq-TRAF c =
     let a = c.args in
     let x = c.requires in
-    let b = c.loop-kind.invariant.1 in
-    let t = turn (goal.at.loop-kind-preserved-in-Upto c).In-Found in
-    let body = take (c.in-Found.end - c.in-Found.start) (drop c.in-Found.start a.s.now) in
-    let on = rw c.in-Upto.is at c.walk_fragment-q.ensures in (
-      t.within,
-      between_more a.of a.write a.w a.list.now (with_fragment a.of) a.s.now c.loop-kind.c c.loop-kind.v c.loop-kind.list b _ _ _ _ t (fragment_listing a.of body) _ _ (rw (eq-eqb _ _ c.if-kind-eq-TRAF.true))
-          (on x.before (x.samples ++ b.done) (b.stands x.before x.samples x.standing)).listed
-          (λ before m st. (on before m st).standing),
-    )
+    let b = c.loop-part.invariant in
+    let on = c.in_ok-v.ensures in
+    between_more a.of a.write (known a.w) a.list.now (with_fragment a.of) a.s.now _ (known c.loop-part.v) c.loop-part.list b _ _ (rw c.in_ok-part.was at c.in-Some.ensures.steps)
+    (fragment_listing a.of c.in_ok-part.part.body.now) _ _ (rw (eq-eqb _ _ c.if-part-eq-TRAF.true))
+    (on x.before (x.samples ++ b.done) (b.stands x.before x.samples x.standing)).listed
+    (λ before m st. (on before m st).standing)
 
-pub loop-kind-preserved : goal.loop-kind-preserved
-loop-kind-preserved c =
+pub returns : goal.returns
+unfolding movie_listing
+returns c =
     let a = c.args in
-    let t = turn (goal.at.loop-kind-preserved c).In-Found in
-    (t.within, between-other a.of a.write a.w a.list.now (with_fragment a.of) a.s.now c.loop-kind.c c.loop-kind.v c.loop-kind.list c.loop-kind.invariant.1 _ _ _ _ t (rw (ne_eqb _ _ c.if-kind-eq-TRAF.false)))
+    between-end a.of a.write (known a.w) a.list.now (with_fragment a.of) a.s.now _ (known c.loop-part.v) c.loop-part.list c.loop-part.invariant c.in-None.ensures.steps.0

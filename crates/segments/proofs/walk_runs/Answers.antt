@@ -1,58 +1,57 @@
-use Rattle.std.proofs.Common.{refl, sym, ap, ◌∙◌, ◌+◌, ◌-◌, arith, ◌++◌, take, drop, eq-eqb, ne_eqb}
-use Rattle.boxes.proofs.BoxLaws.{Opened, opened}
+use Rattle.std.proofs.Common.{refl, ap, ◌+◌, ◌++◌, eq-eqb, ne_eqb}
 use Rattle.fragments.specs.Runs.{run_of}
 use Rattle.segments.specs.Listings.{joined_listing, total, run_listing, runs_from, with_run}
-use Rattle.segments.proofs.FurtherLaws.{between-end, between-bad, between-malformed, at-start, at_other, at_more}
+use Rattle.segments.specs.Walks.{known}
+use Rattle.segments.proofs.FurtherLaws.{reached-bad, between-end, between-bad, between-malformed, at-start, at_other, at_more}
 use Rattle.segments.proofs.walk_runs.Goals as goal
-use Rattle.segments.proofs.walk_runs.Goals.{In-Found}
 
--- what `next` found opens the boxes that are left
-turn : (c : In-Found) → Opened c.args.s.now c.loop-kind.c c.in-Found.kind c.in-Found.start c.in-Found.end c.in-Found.n
-turn c = opened _ _ _ _ _ _ c.loop-kind.invariant.0 (sym c.next-f.ensures ∙ c.in-Found.is)
-
-pub loop-kind-init : goal.loop-kind-init
-loop-kind-init c = let a = c.args in (omega arith, at-start a.of a.write a.w a.list.now (with_run a.d a.time) a.s.now a.time c.requires.1)
-
-pub returns-in-End : goal.returns-in-End
-unfolding runs_from
-returns-in-End c =
+pub loop-part-init : goal.loop-part-init
+loop-part-init c =
     let a = c.args in
-    between-end a.of a.write a.w a.list.now (with_run a.d a.time) a.s.now c.loop-kind.c c.loop-kind.v c.loop-kind.list c.loop-kind.invariant.1.between (sym c.next-f.ensures ∙ c.in-End.is)
+    rw (c.into_iter-part-iterator.ensures.into_iter_gives, c.new-part-items.ensures)
+    (at-start a.of a.write (known a.w) a.list.now (with_run a.d a.time) a.s.now a.time c.requires.1)
 
-pub returns-in-Bad : goal.returns-in-Bad
+pub returns-in_err-part : goal.returns-in_err-part
 unfolding runs_from
-returns-in-Bad c before m st =
-    let a = c.args in (
-      between-bad a.of a.write a.w a.list.now (with_run a.d a.time) a.s.now c.loop-kind.c c.loop-kind.v c.loop-kind.list c.loop-kind.invariant.1.between (sym c.next-f.ensures ∙ c.in-Bad.is),
-      (c.loop-kind.invariant.1.between.stands before m st).judging,
-    )
-
-pub returns-in-Malformed : goal.returns-in-Malformed
-unfolding runs_from
-returns-in-Malformed c before m st =
+returns-in_err-part c before m st =
     let a = c.args in
-    let b = c.loop-kind.invariant.1 in
-    let r = rw c.in-Malformed.is at (c.walk_body-q.ensures.reached (a.time + total b.between.done) b.timed before (m ++ b.between.done) (b.between.stands before m st)) in
-    (between-malformed a.of a.write a.w a.list.now (with_run a.d a.time) a.s.now c.loop-kind.c c.loop-kind.v c.loop-kind.list b.between _ _ _ _ (turn (goal.at.returns-in-Malformed c).In-Found) (λ x. refl) (rw (eq-eqb _ _ c.if-kind-eq-TRUN.true) (ap (joined_listing b.between.done) r.0)), r.1)
+    let b = c.loop-part.invariant.between in
+    let bad = between-bad a.of a.write (known a.w) a.list.now (with_run a.d a.time) a.s.now _ (known c.loop-part.v) c.loop-part.list b _ _ (rw c.in_err-part.was at c.in-Some.ensures.steps) in
+    reached-bad a.of a.write before c.loop-part.list m _ c.from_residual.result c.from_residual.ensures.0 bad (b.stands before m st).judging
 
-pub loop-kind-preserved-in-Upto : goal.loop-kind-preserved-in-Upto
-loop-kind-preserved-in-Upto c =
+pub returns-in_err-v : goal.returns-in_err-v
+unfolding runs_from
+returns-in_err-v c before m st =
+    let a = c.args in
+    let i = c.loop-part.invariant in
+    let b = i.between in
+    let r = c.in_err-v.ensures.reached (a.time + total b.done) i.timed before (m ++ b.done) (b.stands before m st) in
+    let bad = between-malformed a.of a.write (known a.w) a.list.now (with_run a.d a.time) a.s.now _ (known c.loop-part.v) c.loop-part.list b _ _ (rw c.in_ok-part.was at c.in-Some.ensures.steps)
+    (λ x. refl) (rw (eq-eqb _ _ c.if-part-eq-TRUN.true) (ap (joined_listing b.done) r.0)) in
+    reached-bad a.of a.write before c.walk_body.new.list m _ c.from_residual-in_err-v.result c.from_residual-in_err-v.ensures.0 bad r.1
+
+pub loop-part-preserved-then-part-eq-TRUN : goal.loop-part-preserved-then-part-eq-TRUN
+loop-part-preserved-then-part-eq-TRUN c =
     let a = c.args in
     let x = c.requires.0 in
-    let b = c.loop-kind.invariant.1 in
-    let t = turn (goal.at.loop-kind-preserved-in-Upto c).In-Found in
-    let body = take (c.in-Found.end - c.in-Found.start) (drop c.in-Found.start a.s.now) in
-    let at = a.time + total b.between.done in
-    let on = rw c.in-Upto.is at (c.walk_body-q.ensures.reached at b.timed) in (
-      t.within,
-      at_more a.of a.write a.w a.list.now (with_run a.d a.time) a.s.now a.time c.loop-kind.c c.loop-kind.v c.loop-kind.list b _ _ _ _ t (run_listing a.d at body (run_of body)) _ _ (rw (eq-eqb _ _ c.if-kind-eq-TRUN.true))
-          (on x.before (x.samples ++ b.between.done) (b.between.stands x.before x.samples x.standing)).listed
-          (λ before m st. (on before m st).standing)
-          (rw c.in-Upto.is at (c.walk_body-q.ensures.timed at b.timed)),
-    )
+    let i = c.loop-part.invariant in
+    let b = i.between in
+    let at = a.time + total b.done in
+    let on = c.in_ok-v.ensures.reached at i.timed in
+    at_more a.of a.write (known a.w) a.list.now (with_run a.d a.time) a.s.now a.time _ (known c.loop-part.v) c.loop-part.list i _ _ (rw c.in_ok-part.was at c.in-Some.ensures.steps)
+    (run_listing a.d at c.in_ok-part.part.body.now (run_of c.in_ok-part.part.body.now)) _ _ (rw (eq-eqb _ _ c.if-part-eq-TRUN.true))
+    (on x.before (x.samples ++ b.done) (b.stands x.before x.samples x.standing)).listed
+    (λ before m st. (on before m st).standing)
+    (c.in_ok-v.ensures.timed at i.timed)
 
-pub loop-kind-preserved : goal.loop-kind-preserved
-loop-kind-preserved c =
+pub loop-part-preserved : goal.loop-part-preserved
+loop-part-preserved c =
     let a = c.args in
-    let t = turn (goal.at.loop-kind-preserved c).In-Found in
-    (t.within, at_other a.of a.write a.w a.list.now (with_run a.d a.time) a.s.now a.time c.loop-kind.c c.loop-kind.v c.loop-kind.list c.loop-kind.invariant.1 _ _ _ _ t (rw (ne_eqb _ _ c.if-kind-eq-TRUN.false)))
+    at_other a.of a.write (known a.w) a.list.now (with_run a.d a.time) a.s.now a.time _ (known c.loop-part.v) c.loop-part.list c.loop-part.invariant _ _ (rw c.in_ok-part.was at c.in-Some.ensures.steps)
+    (rw (ne_eqb _ _ c.if-part-eq-TRUN.false))
+
+pub returns : goal.returns
+unfolding runs_from
+returns c =
+    let a = c.args in
+    between-end a.of a.write (known a.w) a.list.now (with_run a.d a.time) a.s.now _ (known c.loop-part.v) c.loop-part.list c.loop-part.invariant.between c.in-None.ensures.steps.0

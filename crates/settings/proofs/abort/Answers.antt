@@ -1,42 +1,40 @@
-use Rattle.std.proofs.Common.{◌≡◌, sym, ap, ◌∙◌, true, false, cond, eq-eqb, ne_eqb}
-use Rattle.buffer_state.specs.Answers.{abort_answer}
+use Rattle.std.proofs.Common.{◌≡◌, sym, refl, ap, ◌∙◌, true, false, cond, eq-eqb, ne_eqb}
+use Rattle.buffer_state.specs.Answers.{abort_result}
 use Rattle.buffer_state.specs.declared.Group.{Group}
 use Rattle.buffer_state.specs.Buffer.{is_sequence, start_at_end, in_last_group}
 use Rattle.buffer_state.specs.Layout.{buffer_of}
-use Rattle.buffer_state.specs.Lent.{state_at, well_formed_at}
+use Rattle.buffer_state.specs.Lent.{state_at}
 use Rattle.buffer_state.specs.Limits.{last_group}
 use Rattle.buffer_state.specs.Settings.{abort}
-use Rattle.settings.specs.Windows.{accepted_change}
-use Rattle.settings.proofs.AnswerLaws.{refusing, going_on, few-tracks-in, aborted-head}
+use Rattle.validation.proofs.CheckLaws.{passed, refused_by, goes_on, handed_on}
+use Rattle.settings.proofs.AnswerLaws.{not-set, is-set, few-tracks-in, aborted-head}
 use Rattle.settings.proofs.abort.Goals as goal
-use Rattle.settings.proofs.abort.Goals.{Else-not-well_formed}
 
-well-formed : (c : Else-not-well_formed) → let a = c.args in well_formed_at a.h a.times.now a.tags.now ≡ true
-well-formed c = sym c.well_formed-2.ensures ∙ c.if-not-well_formed.false
-
-pub returns-then-not-well_formed : goal.returns-then-not-well_formed
-unfolding abort_answer
-returns-then-not-well_formed c = c.refuse.ensures ∙ sym (refusing abort c.args.h c.args.times.now c.args.tags.now (sym c.well_formed-2.ensures ∙ c.if-not-well_formed.true))
-
-pub returns-then-g : goal.returns-then-g
-unfolding abort_answer abort
-returns-then-g c =
+pub returns-in_err-check : goal.returns-in_err-check
+unfolding abort_result
+returns-in_err-check c =
     let a = c.args in
-    let last : in_last_group (buffer_of (state_at a.h a.times.now a.tags.now)) ≡ true = eq-eqb a.h.group.number last_group c.if-g.true in
-    c.refuse-then-g.ensures ∙ sym (going_on abort a.h a.times.now a.tags.now (well-formed (goal.at.returns-then-g c).Else-not-well_formed) ∙ rw last)
+    let w = not-set _ a.h.now (refused_by abort a.h.now a.times.now a.tags.now (sym c.check.ensures ∙ c.in_err-check.was)) (handed_on _ c.from_residual.ensures.1) in
+    record { answer = w.0; head = w.1 }
 
-pub restart_all-restarted-requires : goal.restart_all-restarted-requires
-restart_all-restarted-requires c =
+pub returns-then-h : goal.returns-then-h
+unfolding abort_result abort
+returns-then-h c =
     let a = c.args in
-    few-tracks-in a.h a.times.now a.tags.now (well-formed (goal.at.restart_all-restarted-requires c).Else-not-well_formed)
+    let last : in_last_group (buffer_of (state_at a.h.now a.times.now a.tags.now)) ≡ true = eq-eqb a.h.now.group.number last_group c.if-h.true in
+    let w = not-set _ a.h.now (goes_on abort a.h.now a.times.now a.tags.now (sym c.check.ensures ∙ c.in_ok-check.was) ∙ rw last) refl in
+    record { answer = w.0; head = w.1 }
+
+pub restart_all-h-requires : goal.restart_all-h-requires
+restart_all-h-requires c = let a = c.args in few-tracks-in a.h.now a.times.now a.tags.now (passed _ (sym c.check.ensures ∙ c.in_ok-check.was))
 
 pub returns : goal.returns
-unfolding abort_answer abort
+unfolding abort_result abort
 returns c =
     let a = c.args in
-    let formed = well-formed (goal.at.returns c).Else-not-well_formed in
-    let next : in_last_group (buffer_of (state_at a.h a.times.now a.tags.now)) ≡ false = ne_eqb a.h.group.number last_group c.if-g.false in
-    let started = c.group_after-started.ensures ∙ ap (λ (x : Group). cond (is_sequence a.h.mode) (start_at_end x) x) c.next_group.ensures in
-    c.done.ensures
-    ∙ ap accepted_change (aborted-head a.h a.times.now a.tags.now formed c.restart_all-restarted.result c.group_after-started.result c.open_window-w.result c.restart_all-restarted.ensures started c.open_window-w.ensures)
-    ∙ sym (going_on abort a.h a.times.now a.tags.now formed ∙ rw next)
+    let e = sym c.check.ensures ∙ c.in_ok-check.was in
+    let next : in_last_group (buffer_of (state_at a.h.now a.times.now a.tags.now)) ≡ false = ne_eqb a.h.now.group.number last_group c.if-h.false in
+    let started = c.group_after-h.ensures ∙ ap (λ (x : Group). cond (is_sequence a.h.now.mode) (start_at_end x) x) c.next_group.ensures in
+    let w = is-set _ a.h.now _ (goes_on abort a.h.now a.times.now a.tags.now e ∙ rw next)
+    (aborted-head a.h.now a.times.now a.tags.now (passed _ e) c.restart_all-h.result c.group_after-h.result c.open_window-h.result c.restart_all-h.ensures started c.open_window-h.ensures) in
+    record { answer = w.0; head = w.1 }

@@ -1,25 +1,18 @@
-use Rattle.std.proofs.Common.{◌≡◌, sym, ap, ◌∙◌}
-use Rattle.buffer_state.specs.Answers.{read_with, settings_answer}
-use Rattle.buffer_state.specs.declared.WindowEnd.TheVariants.{Unbounded, At}
-use Rattle.settings.proofs.AnswerLaws.{reading-refused, read_by}
+use Rattle.std.proofs.Common.{sym, ◌∙◌, Ok}
+use Rattle.buffer_state.specs.Answers.{settings_result}
+use Rattle.buffer_state.specs.Buffer.{Buffer}
+use Rattle.buffer_state.specs.Settings.{reading}
+use Rattle.validation.proofs.CheckLaws.{refused_by, goes_on, handed_on}
 use Rattle.settings.proofs.read_settings.Goals as goal
-use Rattle.settings.proofs.read_settings.Goals.{Else-not-well_formed}
 
-well-read : (c : Else-not-well_formed) → settings_answer c.args.h c.args.times.now c.args.tags.now
-    ≡ read_with c.args.h.settings.offset.seconds c.args.h.settings.start.seconds c.args.h.settings.end
-well-read c = read_by c.args.h c.args.times.now c.args.tags.now (sym c.well_formed-2.ensures ∙ c.if-not-well_formed.false)
+pub returns-in_err-check : goal.returns-in_err-check
+unfolding settings_result
+returns-in_err-check c =
+    let a = c.args in
+    handed_on _ c.from_residual.ensures.1 ∙ sym (refused_by (λ (b : Buffer). Ok (reading b)) a.h a.times.now a.tags.now (sym c.check.ensures ∙ c.in_err-check.was))
 
-pub returns-then-not-well_formed : goal.returns-then-not-well_formed
-returns-then-not-well_formed c = sym (reading-refused c.args.h c.args.times.now c.args.tags.now (sym c.well_formed-2.ensures ∙ c.if-not-well_formed.true))
-
-pub returns-in-Unbounded : goal.returns-in-Unbounded
-returns-in-Unbounded c =
-    let t = c.args.h.settings in
-    let q : Unbounded ≡ t.end = cc in
-    ap (read_with t.offset.seconds t.start.seconds) q ∙ sym (well-read (goal.at.returns-in-Unbounded c).Else-not-well_formed)
-
-pub returns-in-At : goal.returns-in-At
-returns-in-At c =
-    let t = c.args.h.settings in
-    let q : At c.in-At.x ≡ t.end = sym c.in-At.is in
-    ap (read_with t.offset.seconds t.start.seconds) q ∙ sym (well-read (goal.at.returns-in-At c).Else-not-well_formed)
+pub returns : goal.returns
+unfolding settings_result
+returns c =
+    let a = c.args in
+    sym (goes_on (λ (b : Buffer). Ok (reading b)) a.h a.times.now a.tags.now (sym c.check.ensures ∙ c.in_ok-check.was))

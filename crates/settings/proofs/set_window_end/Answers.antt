@@ -1,42 +1,54 @@
-use Rattle.std.proofs.Common.{◌≡◌, sym, ap, ◌∙◌, true, rules, w64, SFits}
-use Rattle.laws.proofs.WordLaws.{told}
-use Rattle.seconds.specs.declared.EndMicros.TheVariants.{Unbounded, At, Refused}
-use Rattle.buffer_state.specs.Answers.{window_end_answer}
-use Rattle.buffer_state.specs.Lent.{well_formed_at}
+use Rattle.std.proofs.Common.{◌≡◌, sym, ◌∙◌, false, rules, w64, SFits, to_z-of_z}
+use Rattle.laws.proofs.IntLaws.{test-le, test-gt, ge-test, lt_test}
+use Rattle.buffer_state.specs.Answers.{window_end_result}
 use Rattle.buffer_state.specs.Settings.{window_end_set}
-use Rattle.settings.specs.Windows.{accepted_change, end_after, end_by}
-use Rattle.settings.proofs.AnswerLaws.{refusing, going_on, end_by_lem}
+use Rattle.seconds.specs.Seconds.{is_convertible_end}
+use Rattle.validation.proofs.CheckLaws.{passed, refused_by, goes_on, handed_on}
+use Rattle.settings.proofs.AnswerLaws.{not-set, end-refused, end-nowhere, end-at, end_unset, end_taken, end_under}
 use Rattle.settings.proofs.set_window_end.Goals as goal
-use Rattle.settings.proofs.set_window_end.Goals.{After-end_micros-m}
 
--- what the conversion answered decides
-answered : (c : After-end_micros-m) → end_by c.args.h c.args.x c.end_micros-m.result ≡ window_end_answer c.args.x c.args.h c.args.times.now c.args.tags.now
-unfolding window_end_answer
-answered c =
+pub returns-in_err-check : goal.returns-in_err-check
+unfolding window_end_result
+returns-in_err-check c =
     let a = c.args in
-    let formed : well_formed_at a.h a.times.now a.tags.now ≡ true = sym c.well_formed-2.ensures ∙ c.if-not-well_formed.false in
-    ap (end_by a.h a.x) c.end_micros-m.ensures ∙ sym (going_on (window_end_set a.x) a.h a.times.now a.tags.now formed ∙ end_by_lem a.h a.times.now a.tags.now formed a.x)
+    let w = not-set _ a.h.now (refused_by (window_end_set a.x) a.h.now a.times.now a.tags.now (sym c.check.ensures ∙ c.in_err-check.was)) (handed_on _ c.from_residual.ensures.1) in
+    record { answer = w.0; head = w.1 }
 
-pub returns-then-not-well_formed : goal.returns-then-not-well_formed
-unfolding window_end_answer
-returns-then-not-well_formed c = c.refuse.ensures ∙ sym (refusing (window_end_set c.args.x) c.args.h c.args.times.now c.args.tags.now (sym c.well_formed-2.ensures ∙ c.if-not-well_formed.true))
-
-pub returns-in-Refused : goal.returns-in-Refused
-returns-in-Refused c =
+pub returns-in_err-end_micros : goal.returns-in_err-end_micros
+unfolding window_end_result window_end_set
+returns-in_err-end_micros c =
     let a = c.args in
-    let e : Refused ≡ c.end_micros-m.result = cc in
-    c.refuse-in-Refused.ensures ∙ ap (end_by a.h a.x) e ∙ answered (goal.at.returns-in-Refused c).After-end_micros-m
+    let out : is_convertible_end a.x ≡ false = end-refused a.x (sym c.end_micros.ensures ∙ c.in_err-end_micros.was) in
+    let w = not-set _ a.h.now (goes_on (window_end_set a.x) a.h.now a.times.now a.tags.now (sym c.check.ensures ∙ c.in_ok-check.was) ∙ rw out) (handed_on _ c.from_residual-in_err-end_micros.ensures.1) in
+    record { answer = w.0; head = w.1 }
 
-pub returns-in-Unbounded : goal.returns-in-Unbounded
-returns-in-Unbounded c =
+pub returns-in-None : goal.returns-in-None
+unfolding window_end_result
+returns-in-None c =
     let a = c.args in
-    let e : Unbounded ≡ c.end_micros-m.result = cc in
-    c.done.ensures ∙ ap accepted_change c.with_end.ensures ∙ ap (end_by a.h a.x) e ∙ answered (goal.at.returns-in-Unbounded c).After-end_micros-m
+    let e = sym c.check.ensures ∙ c.in_ok-check.was in
+    let w = end_unset a.h.now a.times.now a.tags.now (passed _ e) a.x (goes_on (window_end_set a.x) a.h.now a.times.now a.tags.now e)
+    (end-nowhere a.x (sym c.end_micros.ensures ∙ c.in_ok-end_micros.was) c.in-None.is) in
+    record { answer = w.0; head = rw c.with_end-h.ensures w.1 }
 
-pub returns-in-At : goal.returns-in-At
-returns-in-At c =
+pub returns-then-limit-h : goal.returns-then-limit-h
+unfolding window_end_result
+returns-then-limit-h c =
     let a = c.args in
-    let z = c.in-At.z in
-    let e : At z ≡ c.end_micros-m.result = sym c.in-At.is in
-    let fits : SFits w64 z = search rules in
-    told z fits (end_after a.h a.x) c.end_at.ensures ∙ ap (end_by a.h a.x) e ∙ answered (goal.at.returns-in-At c).After-end_micros-m
+    let fits : SFits w64 c.in-Some.limit = search rules in
+    let kept : SFits w64 a.h.now.settings.start.micros = search rules in
+    let e = sym c.check.ensures ∙ c.in_ok-check.was in
+    let w = end_under a.h.now a.times.now a.tags.now (passed _ e) a.x c.in-Some.limit (goes_on (window_end_set a.x) a.h.now a.times.now a.tags.now e)
+    (end-at a.x _ (sym c.end_micros.ensures ∙ c.in_ok-end_micros.was) c.in-Some.is) (ge-test {a = a.h.now.settings.start.micros} {b = c.in-Some.limit} (test-le (rw (to_z-of_z fits, to_z-of_z kept) at c.if-limit-h.true))) in
+    record { answer = w.0; head = w.1 }
+
+pub returns-else-limit-h : goal.returns-else-limit-h
+unfolding window_end_result
+returns-else-limit-h c =
+    let a = c.args in
+    let fits : SFits w64 c.in-Some.limit = search rules in
+    let kept : SFits w64 a.h.now.settings.start.micros = search rules in
+    let e = sym c.check.ensures ∙ c.in_ok-check.was in
+    let w = end_taken a.h.now a.times.now a.tags.now (passed _ e) a.x c.in-Some.limit (goes_on (window_end_set a.x) a.h.now a.times.now a.tags.now e)
+    (end-at a.x _ (sym c.end_micros.ensures ∙ c.in_ok-end_micros.was) c.in-Some.is) (lt_test {a = a.h.now.settings.start.micros} {b = c.in-Some.limit} (test-gt (rw (to_z-of_z fits, to_z-of_z kept) at c.if-limit-h.false))) in
+    record { answer = w.0; head = rw (c.with_end-h-in-Some.ensures, to_z-of_z fits) w.1 }

@@ -1,36 +1,53 @@
-use Rattle.std.proofs.Common.{◌≡◌, sym, ap, ◌∙◌, true, rules, w64, SFits}
-use Rattle.laws.proofs.WordLaws.{told}
-use Rattle.seconds.specs.declared.Micros.TheVariants.{At, Refused}
-use Rattle.buffer_state.specs.Answers.{window_start_answer}
-use Rattle.buffer_state.specs.Lent.{well_formed_at}
-use Rattle.buffer_state.specs.Settings.{window_start_set}
-use Rattle.settings.specs.Windows.{start_at, start_by}
-use Rattle.settings.proofs.AnswerLaws.{refusing, going_on, start_by_lem}
+use Rattle.std.proofs.Common.{◌≡◌, sym, ap, ◌∙◌, true, false, not, ◌||◌, pos, rules, w64, SFits, to_z-of_z}
+use Rattle.laws.proofs.BoolLaws.{or_left, or_right}
+use Rattle.std.specs.Int.Signed.{lt_z}
+use Rattle.buffer_state.specs.Answers.{window_start_result}
+use Rattle.buffer_state.specs.Remove.{before_bound}
+use Rattle.buffer_state.specs.Settings.{window_end, window_start_set}
+use Rattle.seconds.specs.Seconds.{is_convertible}
+use Rattle.validation.proofs.CheckLaws.{passed, refused_by, goes_on, handed_on}
+use Rattle.settings.proofs.AnswerLaws.{not-set, setting-given, setting-refused, start_taken, start_under}
 use Rattle.settings.proofs.set_window_start.Goals as goal
-use Rattle.settings.proofs.set_window_start.Goals.{After-micros_of-m}
+use Rattle.settings.proofs.set_window_start.Goals.{Joined-then-start-lt0, then-start-lt0-via-then-start-lt0, then-start-lt0-via-else-start-lt0+then-not-before_end}
 
--- what the conversion answered decides
-answered : (c : After-micros_of-m) → start_by c.args.h c.args.x c.micros_of-m.result ≡ window_start_answer c.args.x c.args.h c.args.times.now c.args.tags.now
-unfolding window_start_answer
-answered c =
+pub returns-in_err-check : goal.returns-in_err-check
+unfolding window_start_result
+returns-in_err-check c =
     let a = c.args in
-    let formed : well_formed_at a.h a.times.now a.tags.now ≡ true = sym c.well_formed-2.ensures ∙ c.if-not-well_formed.false in
-    ap (start_by a.h a.x) c.micros_of-m.ensures ∙ sym (going_on (window_start_set a.x) a.h a.times.now a.tags.now formed ∙ start_by_lem a.h a.times.now a.tags.now formed a.x)
+    let w = not-set _ a.h.now (refused_by (window_start_set a.x) a.h.now a.times.now a.tags.now (sym c.check.ensures ∙ c.in_err-check.was)) (handed_on _ c.from_residual.ensures.1) in
+    record { answer = w.0; head = w.1 }
 
-pub returns-then-not-well_formed : goal.returns-then-not-well_formed
-unfolding window_start_answer
-returns-then-not-well_formed c = c.refuse.ensures ∙ sym (refusing (window_start_set c.args.x) c.args.h c.args.times.now c.args.tags.now (sym c.well_formed-2.ensures ∙ c.if-not-well_formed.true))
-
-pub returns-in-Refused : goal.returns-in-Refused
-returns-in-Refused c =
+pub returns-in_err-start : goal.returns-in_err-start
+unfolding window_start_result window_start_set
+returns-in_err-start c =
     let a = c.args in
-    let e : Refused ≡ c.micros_of-m.result = cc in
-    c.refuse-in-Refused.ensures ∙ ap (start_by a.h a.x) e ∙ answered (goal.at.returns-in-Refused c).After-micros_of-m
+    let out : is_convertible a.x ≡ false = setting-refused a.x (sym c.given.ensures ∙ c.in_err-start.was) in
+    let w = not-set _ a.h.now (goes_on (window_start_set a.x) a.h.now a.times.now a.tags.now (sym c.check.ensures ∙ c.in_ok-check.was) ∙ rw out) (handed_on _ c.from_residual-in_err-start.ensures.1) in
+    record { answer = w.0; head = w.1 }
 
-pub returns-in-At : goal.returns-in-At
-returns-in-At c =
+-- under 0, or not below the window's end
+out-of-order : (c : Joined-then-start-lt0) → let z = c.in_ok-start.start.micros in (lt_z z (pos 0) || not (before_bound z (window_end c.args.h.now.settings))) ≡ true
+out-of-order c =
+    let fits : SFits w64 c.in_ok-start.start.micros = search rules in
+    elim c.then-start-lt0.branch [
+      | then-start-lt0-via-then-start-lt0 w ↦ or_left _ _ (rw (to_z-of_z fits) at w.if-start-lt0.true)
+      | then-start-lt0-via-else-start-lt0+then-not-before_end w ↦ or_right _ _ (ap not (sym (rw (to_z-of_z fits) at w.before_end.ensures) ∙ w.if-not-before_end.true))
+    ]
+
+pub returns-then-start-lt0 : goal.returns-then-start-lt0
+unfolding window_start_result
+returns-then-start-lt0 c =
     let a = c.args in
-    let z = c.in-At.z in
-    let e : At z ≡ c.micros_of-m.result = sym c.in-At.is in
-    let fits : SFits w64 z = search rules in
-    told z fits (start_at a.h a.x) c.start_at.ensures ∙ ap (start_by a.h a.x) e ∙ answered (goal.at.returns-in-At c).After-micros_of-m
+    let e = sym c.check.ensures ∙ c.in_ok-check.was in
+    let w = start_under a.h.now a.times.now a.tags.now (passed _ e) a.x (goes_on (window_start_set a.x) a.h.now a.times.now a.tags.now e) (setting-given a.x (sym c.given.ensures ∙ c.in_ok-start.was)) (out-of-order c) in
+    record { answer = w.0; head = w.1 }
+
+pub returns : goal.returns
+unfolding window_start_result
+returns c =
+    let a = c.args in
+    let fits : SFits w64 c.in_ok-start.start.micros = search rules in
+    let e = sym c.check.ensures ∙ c.in_ok-check.was in
+    let w = start_taken a.h.now a.times.now a.tags.now (passed _ e) a.x (goes_on (window_start_set a.x) a.h.now a.times.now a.tags.now e) (setting-given a.x (sym c.given.ensures ∙ c.in_ok-start.was))
+    (rw (to_z-of_z fits) at c.if-start-lt0.false) (sym (rw (to_z-of_z fits) at c.before_end.ensures) ∙ c.if-not-before_end.false) in
+    record { answer = w.0; head = rw c.with_start-h.ensures w.1 }

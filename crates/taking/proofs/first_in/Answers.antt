@@ -1,4 +1,4 @@
-use Rattle.std.proofs.Common.{rules, arith, ◌≤◌, ◌<◌, ◌≡◌, refl, sym, ap, ◌∙◌, true, not, length, get_or}
+use Rattle.std.proofs.Common.{rules, arith, ◌≤◌, ◌<◌, ◌≡◌, refl, sym, ap, ◌∙◌, not, length, get_or}
 use Rattle.buffer_state.specs.Layout.{zero_frame}
 use Rattle.buffer_laws.proofs.TestLaws.{all_none, all-step, all-stop}
 use Rattle.buffer_state.specs.Lent.{frames_of}
@@ -25,26 +25,27 @@ told : (c : After-in_span)
 told c = sym (c.in_span.ensures ∙ ap (in_spans c.args.spans) c.frame_at-g.ensures)
 
 pub loop-i-init : goal.loop-i-init
-loop-i-init c = (search rules, refl, all_none (out c.args.spans))
+loop-i-init c = (refl, all_none (out c.args.spans))
 
 pub bounds-spans-k : goal.bounds-spans-k
 bounds-spans-k c = let h = inside (goal.at.bounds-spans-k c).After-frame_at-g in search rules
 
 pub returns-then-in_span : goal.returns-then-in_span
 returns-then-in_span c =
-    let a = c.args in
-    record {
-      inside = c.loop-i.invariant.0;
-      before = c.loop-i.invariant.2;
-      here = λ _. sym c.loop-i.invariant.1
-          ∙ all-stop (out a.spans) (frames_of a.times.now a.tags.now) a.n (full (goal.at.returns-then-in_span c).Start) c.loop-i.i zero_frame c.loop-i-test.true (ap not (told (goal.at.returns-then-in_span c).After-in_span ∙ c.if-in_span.true));
-    }
+    let a = c.args in (
+      c.loop-i-test.true,
+      record {
+        inside = omega (arith, c.loop-i-test.true);
+        before = c.loop-i.invariant.1;
+        here = λ _. sym c.loop-i.invariant.0
+            ∙ all-stop (out a.spans) (frames_of a.times.now a.tags.now) a.n (full (goal.at.returns-then-in_span c).Start) c.loop-i.i zero_frame c.loop-i-test.true (ap not (told (goal.at.returns-then-in_span c).After-in_span ∙ c.if-in_span.true));
+      },
+    )
 
 pub loop-i-preserved : goal.loop-i-preserved
 loop-i-preserved c =
     let a = c.args in (
-      search rules,
       sym (all-step (out a.spans) (frames_of a.times.now a.tags.now) a.n (full (goal.at.loop-i-preserved c).Start) c.loop-i.i zero_frame c.loop-i-test.true (ap not (told (goal.at.loop-i-preserved c).After-in_span ∙ c.if-in_span.false)))
-          ∙ c.loop-i.invariant.1,
-      all-next (out a.spans) (frames_of a.times.now a.tags.now) a.n (full (goal.at.loop-i-preserved c).Start) c.loop-i.i zero_frame c.loop-i-test.true (ap not (told (goal.at.loop-i-preserved c).After-in_span ∙ c.if-in_span.false)) c.loop-i.invariant.2,
+          ∙ c.loop-i.invariant.0,
+      all-next (out a.spans) (frames_of a.times.now a.tags.now) a.n (full (goal.at.loop-i-preserved c).Start) c.loop-i.i zero_frame c.loop-i-test.true (ap not (told (goal.at.loop-i-preserved c).After-in_span ∙ c.if-in_span.false)) c.loop-i.invariant.1,
     )

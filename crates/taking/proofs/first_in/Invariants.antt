@@ -1,4 +1,4 @@
-use Rattle.std.proofs.Common.{◌-◌, ◌≤◌, ◌≡◌, Bool, true, not, List, take, drop}
+use Rattle.std.proofs.Common.{◌≡◌, Bool, true, not, List, take, drop}
 use Rattle.buffer_state.specs.declared.Frame.{Frame}
 use Rattle.buffer_state.specs.WellFormed.{all_of}
 use Rattle.buffer_state.specs.Lent.{frames_of}
@@ -11,9 +11,5 @@ out spans g = not (in_spans spans g)
 
 abbrev pub invariant-loop-i : goal.invariant-loop-i
 invariant-loop-i l =
-    (l.i ≤ l.n)
-    × (all_of (out l.spans) (drop l.i (take l.n (frames_of l.times l.tags))) ≡ all_of (out l.spans) (take l.n (frames_of l.times l.tags)))
+    (all_of (out l.spans) (drop l.i (take l.n (frames_of l.times l.tags))) ≡ all_of (out l.spans) (take l.n (frames_of l.times l.tags)))
     × (all_of (out l.spans) (take l.i (take l.n (frames_of l.times l.tags))) ≡ true)
-
-abbrev pub decreases-loop-i : goal.decreases-loop-i
-decreases-loop-i l = l.n - l.i

@@ -1,19 +1,19 @@
 use Rattle.std.proofs.Common.{rules, arith, ℕ, ◌+◌, ◌≤◌, ◌<◌, ◌≡◌, sym, ap, ◌∙◌, List, ◌∷◌, length, take, drop, get_or}
 use Rattle.laws.proofs.ListLaws.{first-length}
-use Rattle.seconds.specs.Seconds.{at}
 use Rattle.buffer_state.specs.declared.Frame.{Frame}
+use Rattle.buffer_state.specs.declared.Track.{Track}
 use Rattle.buffer_state.specs.Buffer.{zero_track}
 use Rattle.buffer_state.specs.Layout.{zero_frame}
 use Rattle.buffer_state.specs.Lent.{frames_of}
 use Rattle.buffer_state.specs.Store.{Marked}
 use Rattle.buffer_laws.proofs.RowLaws.{frames-length}
-use Rattle.taking.specs.Loss.{ends}
+use Rattle.taking.specs.Loss.{bound_in, loss_here}
 use Rattle.taking.specs.Marks.{mark, marked_by}
 use Rattle.taking.proofs.GoneLaws.{track-inside}
-use Rattle.taking.proofs.LossLaws.{loss-first, loss-none, loss-stays, loss-passed, loss_here_lem}
+use Rattle.taking.proofs.LossLaws.{some-loss, none-loss, loss-first, loss-none, loss-stays, loss-passed, loss_here_lem}
 use Rattle.taking.proofs.MarkLaws.{marks-next, marks-end, front-still}
 use Rattle.taking.proofs.loss_of.Goals as goal
-use Rattle.taking.proofs.loss_of.Goals.{Start, At-loop-i, After-shared_slice_known-in-loop-i-1, After-frame_at-g, After-ends_track}
+use Rattle.taking.proofs.loss_of.Goals.{Start, At-loop-i, After-shared_slice_known-in-loop-i-1, After-frame_at-g, After-loss_here-lost}
 
 full : (s : Start) → s.args.n ≤ length (frames_of s.args.times.now s.args.tags.now)
 full s = omega (arith, frames-length s.args.times.now s.args.tags.now (s.requires.1.0 ∙ sym s.requires.1.1), s.requires.0, s.requires.1.0)
@@ -48,34 +48,51 @@ inside f =
     let a = s.args in
     rw f.frame_at-g.ensures (track-inside (frames_of a.times.now a.tags.now) a.n f.loop-i.i f.loop-i-test.true s.requires.2)
 
--- whether it ends that track
-told : (o : After-ends_track) → ends (get_or (start (goal.at.After-ends_track o).At-loop-i).args.tracks (here (goal.at.After-ends_track o).At-loop-i).track zero_track) (here (goal.at.After-ends_track o).At-loop-i) ≡ o.ends_track.result
-told o = sym (o.ends_track.ensures ∙ ap (λ (g : Frame). ends (get_or (start (goal.at.After-ends_track o).At-loop-i).args.tracks g.track zero_track) g) o.frame_at-g.ensures)
+-- its track, and the loss that it is
+abbrev own : (f : After-frame_at-g) → Track
+own f = let d = (goal.at.After-frame_at-g f).At-loop-i in get_or (start d).args.tracks (here d).track zero_track
+
+found : (o : After-loss_here-lost) → let f = (goal.at.After-loss_here-lost o).After-frame_at-g in bound_in o.loss_here-lost.result ≡ loss_here (own f) (here (goal.at.After-frame_at-g f).At-loop-i)
+found o =
+    let d = (goal.at.After-frame_at-g (goal.at.After-loss_here-lost o).After-frame_at-g).At-loop-i in
+    o.loss_here-lost.ensures ∙ ap (λ (g : Frame). loss_here (get_or (start d).args.tracks g.track zero_track) g) o.frame_at-g.ensures
 
 pub loop-i-init : goal.loop-i-init
 loop-i-init c =
     let a = c.args in
     let l = take a.n (frames_of a.times.now a.tags.now) in
     let out = front-still a.first l a.causes.now (omega (arith, first-length (frames_of a.times.now a.tags.now) a.n (full (goal.at.loop-i-init c).Start), c.requires.3)) c.requires.5 in
-    (omega arith, loss-first a.tracks (marked_by l a.causes.now) a.first (take a.first l) out)
+    loss-first a.tracks (marked_by l a.causes.now) a.first (take a.first l) out
 
 pub loop-i-preserved-then-causes-i-eq0 : goal.loop-i-preserved-then-causes-i-eq0
-loop-i-preserved-then-causes-i-eq0 c = (omega (arith, c.loop-i.invariant.0), sym (loss-stays (start (goal.at.loop-i-preserved-then-causes-i-eq0 c).At-loop-i).args.tracks (here (goal.at.loop-i-preserved-then-causes-i-eq0 c).At-loop-i) (cause (goal.at.loop-i-preserved-then-causes-i-eq0 c).At-loop-i) (left (goal.at.loop-i-preserved-then-causes-i-eq0 c).At-loop-i) _ (next (goal.at.loop-i-preserved-then-causes-i-eq0 c).After-shared_slice_known-in-loop-i-1) c.if-causes-i-eq0.true) ∙ c.loop-i.invariant.1)
+loop-i-preserved-then-causes-i-eq0 c =
+    let k = (goal.at.loop-i-preserved-then-causes-i-eq0 c).After-shared_slice_known-in-loop-i-1 in
+    let d = (goal.at.loop-i-preserved-then-causes-i-eq0 c).At-loop-i in
+    sym (loss-stays (start d).args.tracks (here d) (cause d) (left d) _ (next k) c.if-causes-i-eq0.true) ∙ c.loop-i.invariant
 
 pub bounds-tracks-t : goal.bounds-tracks-t
 bounds-tracks-t c = let h = inside (goal.at.bounds-tracks-t c).After-frame_at-g in search rules
 
-pub returns-then-ends_track : goal.returns-then-ends_track
-returns-then-ends_track c =
-    c.shown.ensures ∙ ap (λ (g : Frame). at g.pts) c.frame_at-g.ensures
-    ∙ sym (loss_here_lem (start (goal.at.returns-then-ends_track c).At-loop-i).args.tracks (here (goal.at.returns-then-ends_track c).At-loop-i) (cause (goal.at.returns-then-ends_track c).At-loop-i) (left (goal.at.returns-then-ends_track c).At-loop-i) _ (next (goal.at.returns-then-ends_track c).After-shared_slice_known-in-loop-i-1) c.if-causes-i-eq0.false (told (goal.at.returns-then-ends_track c).After-ends_track ∙ c.if-ends_track.true)) ∙ c.loop-i.invariant.1
+pub returns-then-is_some : goal.returns-then-is_some
+returns-then-is_some c =
+    let k = (goal.at.returns-then-is_some c).After-shared_slice_known-in-loop-i-1 in
+    let d = (goal.at.returns-then-is_some c).At-loop-i in
+    let f = (goal.at.returns-then-is_some c).After-frame_at-g in
+    let loss = found (goal.at.returns-then-is_some c).After-loss_here-lost in
+    let ended = some-loss c.loss_here-lost.result (own f) (here d) loss (sym c.is_some.ensures ∙ c.if-is_some.true) in
+    loss ∙ rw ended (sym (loss_here_lem (start d).args.tracks (here d) (cause d) (left d) _ (next k) c.if-causes-i-eq0.false ended)) ∙ c.loop-i.invariant
 
 pub loop-i-preserved : goal.loop-i-preserved
-loop-i-preserved c = (omega (arith, c.loop-i.invariant.0), sym (loss-passed (start (goal.at.loop-i-preserved c).At-loop-i).args.tracks (here (goal.at.loop-i-preserved c).At-loop-i) (cause (goal.at.loop-i-preserved c).At-loop-i) (left (goal.at.loop-i-preserved c).At-loop-i) _ (next (goal.at.loop-i-preserved c).After-shared_slice_known-in-loop-i-1) (told (goal.at.loop-i-preserved c).After-ends_track ∙ c.if-ends_track.false)) ∙ c.loop-i.invariant.1)
+loop-i-preserved c =
+    let k = (goal.at.loop-i-preserved c).After-shared_slice_known-in-loop-i-1 in
+    let d = (goal.at.loop-i-preserved c).At-loop-i in
+    let f = (goal.at.loop-i-preserved c).After-frame_at-g in
+    let passed = none-loss c.loss_here-lost.result (own f) (here d) (found (goal.at.loop-i-preserved c).After-loss_here-lost) (sym c.is_some.ensures ∙ c.if-is_some.false) in
+    sym (loss-passed (start d).args.tracks (here d) (cause d) (left d) _ (next k) passed) ∙ c.loop-i.invariant
 
 pub returns : goal.returns
 returns c =
     let s = start (goal.at.returns c).At-loop-i in
     let a = s.args in
     sym (loss-none a.tracks (left (goal.at.returns c).At-loop-i) (marks-end (frames_of a.times.now a.tags.now) a.causes.now a.n (full s) s.requires.3 c.loop-i.i c.loop-i-test.false))
-    ∙ c.loop-i.invariant.1
+    ∙ c.loop-i.invariant

@@ -1,4 +1,5 @@
-use Rattle.std.proofs.Common.{rules, arith, ℕ, ◌+◌, ◌≤◌, ◌<◌, ◌≡◌, refl, sym, ap, ap₂, subst, ◌∙◌, true, false, not, ◌&&◌, List, [], ◌∷◌, eqb, ℤ, ne_eqb, length, take, drop, get_or, set}
+use Rattle.std.proofs.Common.{rules, arith, ℕ, ◌+◌, ◌≤◌, ◌<◌, ◌≡◌, refl, sym, ap, ap₂, subst, ◌∙◌, Bool, true, false, not, ◌&&◌, List, [], ◌∷◌, eqb, ℤ, ne_eqb, length, take, drop, get_or, set}
+use Rattle.laws.proofs.BoolLaws.{and_left}
 use Rattle.seconds.specs.Seconds.{Bound}
 use Rattle.buffer_state.specs.declared.Frame.{Frame}
 use Rattle.buffer_state.specs.Layout.{zero_frame}
@@ -121,7 +122,7 @@ loop-i-preserved-then-follows-g c =
       subst (λ (x : Frame). Taking a.times.now a.tags.now a.fates.now a.n (marks (goal.at.At-loop-i d).Start) d.loop-i.times d.loop-i.tags (set d.loop-i.fates d.loop-i.m (x.number ∷ 5 ∷ [])) d.loop-i.k (d.loop-i.m + 1) (d.loop-i.i + 1))
           (sym (frame_here (goal.at.loop-i-preserved-then-follows-g c).After-frame_of-g))
           (turn-gone a.times.now a.tags.now a.fates.now a.n (marks (goal.at.At-loop-i d).Start) d.loop-i.times d.loop-i.tags d.loop-i.fates d.loop-i.k d.loop-i.m d.loop-i.i d.loop-i.invariant.0 h 5 arm.0 refl (omega (arith, d.loop-i.invariant.0.told, d.loop-i.invariant.0.inside, h, d.requires.0, d.requires.6))),
-      arm.1,
+      subst (λ (b : Bool). Along a.times.now a.tags.now a.n a.first (in_spans a.spans) a.cause d.loop-i.track b (d.loop-i.i + 1)) (sym (and_left d.loop-i.follows _ c.if-follows-g.true)) arm.1,
       ap (λ (b : Bound). earlier b (loss_of a.tracks rest)) (found-2 c)
           ∙ loss-gone a.tracks (here d) 5 (drop d.loop-i.i (marks (goal.at.At-loop-i d).Start)) rest arm.0 (bound_in d.loop-i.lost) refl ∙ d.loop-i.invariant.2,
     )
@@ -150,4 +151,4 @@ returns c =
     let e = ended a.times.now a.tags.now a.fates.now a.n (marks (goal.at.returns c).Start) c.requires.0 c.requires.1 c.requires.2 c.loop-i.times c.loop-i.tags c.loop-i.fates c.loop-i.k c.loop-i.m c.loop-i.i c.loop-i.invariant.0 none in
     let lost = bound_in c.loop-i.lost in
     let known = sym (earlier-none lost) ∙ ap (earlier lost) (sym (loss-none a.tracks (drop c.loop-i.i (marks (goal.at.returns c).Start)) none)) ∙ c.loop-i.invariant.2 in
-    record { times = c.clear_times.ensures ∙ e.0; tags = c.clear_tags.ensures ∙ e.1; lines = e.2; lost = known; counts = (e.3, e.4) }
+    record { times = c.clear.ensures.times ∙ e.0; tags = c.clear.ensures.tags ∙ e.1; lines = e.2; lost = known; counts = (e.3, e.4) }

@@ -90,4 +90,4 @@ returns c =
     let a = s.args in
     let e = ended a.times.now a.tags.now a.fates.now a.n (marks s) s.requires.0 s.requires.1 s.requires.2 c.loop-i.times c.loop-i.tags c.loop-i.fates c.loop-i.k c.loop-i.m c.loop-i.i c.loop-i.invariant
     (marks-end (frames_of a.times.now a.tags.now) a.causes.now a.n (full-here s) s.requires.3 c.loop-i.i c.loop-i-test.false) in
-    record { times = c.clear_times.ensures ∙ e.0; tags = c.clear_tags.ensures ∙ e.1; lines = e.2; counts = (e.3, e.4) }
+    record { times = c.clear.ensures.times ∙ e.0; tags = c.clear.ensures.tags ∙ e.1; lines = e.2; counts = (e.3, e.4) }

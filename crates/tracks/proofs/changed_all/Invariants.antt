@@ -1,4 +1,4 @@
-use Rattle.std.proofs.Common.{◌≡◌, Bool, true, cond, ◌-◌, ◌≤◌, length}
+use Rattle.std.proofs.Common.{◌≡◌, Bool, true, cond}
 use Rattle.laws.proofs.ListLaws.{mapped_to}
 use Rattle.buffer_state.specs.declared.Track.{Track}
 use Rattle.buffer_state.specs.Buffer.{restarted_track, with_need}
@@ -8,7 +8,4 @@ abbrev pub changed : Bool → Track → Track
 changed unset t = cond unset (restarted_track t) (with_need true t)
 
 abbrev pub invariant-loop-i : goal.invariant-loop-i
-invariant-loop-i l = (l.i ≤ l.n) × (length l.initial.out ≡ 4) × (l.out ≡ mapped_to (changed l.unset) l.initial.out l.i)
-
-abbrev pub decreases-loop-i : goal.decreases-loop-i
-decreases-loop-i l = l.n - l.i
+invariant-loop-i l = l.ts ≡ mapped_to (changed l.unset) l.initial.ts l.i

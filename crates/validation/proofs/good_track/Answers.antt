@@ -14,9 +14,9 @@ returns-then-t c =
     let known : t.known ≡ true = c.if-t.true in
     rw (le-leb t.kind 1 c.if-t-gt1.false, known) c.good_three.ensures
 
-pub returns : goal.returns
+pub returns-else-t : goal.returns-else-t
 unfolding good_track
-returns c =
+returns-else-t c =
     let t = c.args.t in
     let unknown : t.known ≡ false = c.if-t.false in
     rw (le-leb t.kind 1 c.if-t-gt1.false, unknown) c.zero_three.ensures

@@ -1,18 +1,21 @@
 -- Each digit of the base goes into the number; any other byte ends the reading.
-use Rattle.std.proofs.Common.{rules}
-use Rattle.text.proofs.ReadingLaws.{digits-stop, digits_more, digits-end}
+use Rattle.std.proofs.Common.{rules, arith}
+use Rattle.std.proofs.lemmas.Grind.{common_steps}
+use Rattle.text.proofs.ReadingLaws.{digits_at, digits_end}
 use Rattle.text.proofs.read.digits.Goals as goal
+
+pub returns-in_err-d : goal.returns-in_err-d
+returns-in_err-d c =
+    grind (arith, common_steps, digits_at c.args.base c.loop-b.m c.loop-b.b-index c.args.w.now c.loop-b-test.true)
 
 pub returns-then-base-d : goal.returns-then-base-d
 returns-then-base-d c =
-    digits-stop _ c.loop-i.m c.loop-i.i _ _ c.loop-i.invariant.1 c.digit-d.result c.loop-i-test.true c.digit-d.ensures c.if-base-d.true
+    grind (arith, common_steps, digits_at c.args.base c.loop-b.m c.loop-b.b-index c.args.w.now c.loop-b-test.true)
 
-pub loop-i-preserved : goal.loop-i-preserved
-loop-i-preserved c = (
-  search rules,
-  rw c.longer-m.ensures
-      (digits_more _ c.loop-i.m c.loop-i.i _ _ c.loop-i.invariant.1 c.digit-d.result c.loop-i-test.true c.digit-d.ensures c.if-base-d.false),
-)
+pub loop-b-preserved : goal.loop-b-preserved
+loop-b-preserved c =
+    grind (arith, common_steps, digits_at c.args.base c.loop-b.m c.loop-b.b-index c.args.w.now c.loop-b-test.true)
 
 pub returns : goal.returns
-returns c = digits-end _ c.loop-i.m c.loop-i.i _ _ c.loop-i.invariant.1 c.loop-i-test.false
+returns c =
+    grind (arith, common_steps, digits_end c.args.base c.loop-b.m c.loop-b.b-index c.args.w.now c.loop-b-test.false)
