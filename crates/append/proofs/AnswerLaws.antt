@@ -14,7 +14,7 @@ use Rattle.buffer_state.specs.declared.Frame.{Frame}
 use Rattle.buffer_state.specs.declared.Head.{Head}
 use Rattle.buffer_state.specs.declared.Offered.{Offered}
 use Rattle.buffer_state.specs.declared.Refusal.{Refusal}
-use Rattle.buffer_state.specs.declared.Refusal.TheVariants.{IllFormed, ShortFates, NoTrack, FrameLimits, ResultLimits, Full, LastNumber}
+use Rattle.buffer_state.specs.declared.Refusal.TheVariants.{ShortFates, NoTrack, FrameLimits, ResultLimits, Full, LastNumber}
 use Rattle.buffer_state.specs.Answers.{append_result}
 use Rattle.buffer_state.specs.Append.{Pass, last_pass, leaves_limits, lacks_group, appended_outcome, is_offerable, append}
 use Rattle.buffer_state.specs.Buffer.{Buffer}
@@ -25,8 +25,10 @@ use Rattle.buffer_state.specs.Refusals.{CallResult, refuse_if}
 use Rattle.buffer_laws.proofs.AppendLaws.{last-from, last_pass-good}
 use Rattle.buffer_laws.proofs.GoodLaws.{IsGood, facts-good}
 use Rattle.buffer_laws.proofs.LayoutLaws.{few-tracks}
-use Rattle.buffer_laws.proofs.LentLaws.{Holds, lent-good, lent_back, held_back, laid-well_formed, ill-formed-refused, on-well_formed}
+use Rattle.buffer_laws.proofs.LentLaws.{Holds, lent-good, lent_back, held_back, laid-well_formed, on-well_formed}
 use Rattle.heads.specs.Heads.{IsGoodHead, HasTrack, decision}
+use Rattle.validation.specs.Tests.{checked}
+use Rattle.validation.proofs.CheckLaws.{refused_by}
 use Rattle.append.specs.Settled.{settled_result, pass_at, IsReady}
 use Rattle.append.proofs.StoredLaws.{held-good, held-head, held-count}
 
@@ -43,9 +45,9 @@ module _ (lent : ℕ) (f : Offered) (h : Head) (ts : List (List ℤ)) (gs : List
   abbrev held : Buffer
   held = buffer_of (state_at h ts gs)
 
-  pub refused-one : well_formed_at h ts gs ≡ false → append_result lent f h ts gs ≡ Err IllFormed
+  pub refused-one : {why : Refusal} → checked (well_formed_at h ts gs) ≡ Err why → append_result lent f h ts gs ≡ Err why
   unfolding append_result
-  refused-one e = ill-formed-refused (append lent f) h ts gs e
+  refused-one e = refused_by (append lent f) h ts gs e
 
   module _ (w : well_formed_at h ts gs ≡ true) where
     whole : append_result lent f h ts gs ≡ append lent f held

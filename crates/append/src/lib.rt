@@ -290,9 +290,7 @@ pub fn append(
     ensures tags { tags.new ≡ tags_after (append_result (length fates.old) f h.old times.old tags.old) tags.old }
     ensures lines { fates.new ≡ list_after (append_result (length fates.old) f h.old times.old tags.old) fates.old }
 {
-    if !validation::well_formed(*h, times, tags) {
-        return Err(Refusal::IllFormed);
-    }
+    validation::check(h, times, tags)?;
     if fates.len() < PLACES {
         return Err(Refusal::ShortFates);
     }

@@ -1,7 +1,7 @@
 -- The call's result: each refusal where its test is the first to pass, and after all of them the appends.
 use Rattle.std.specs.Prelude.{Result, Err}
 use mathlib.Core.Path.{◌≡◌, sym, subst, ◌∙◌}
-use mathlib.Core.Bool.{true, false}
+use mathlib.Core.Bool.{true}
 use mathlib.Core.List.{List, map}
 use Prim.Native.Nat.{ℕ, ◌≤◌, ◌<◌}
 use lib.IntN.{ℤ}
@@ -10,22 +10,24 @@ use borrow.Author.Tests.{lt-ltb, le-ltb}
 use Rattle.buffer_state.specs.declared.Accepted.{Accepted}
 use Rattle.buffer_state.specs.declared.Head.{Head}
 use Rattle.buffer_state.specs.declared.Refusal.{Refusal}
-use Rattle.buffer_state.specs.declared.Refusal.TheVariants.{IllFormed, ShortFates, LentSize}
+use Rattle.buffer_state.specs.declared.Refusal.TheVariants.{ShortFates, LentSize}
 use Rattle.buffer_state.specs.Answers.{batch_result}
 use Rattle.buffer_state.specs.Batch.{Batch, offered_in, most_frames, batch_lines, batch}
 use Rattle.buffer_state.specs.Lent.{well_formed_at}
 use Rattle.buffer_state.specs.Refusals.{CallResult}
 use Rattle.buffer_laws.proofs.AnswerLaws.{LeavesBatch}
-use Rattle.buffer_laws.proofs.LentLaws.{ill-formed-refused, on-well_formed}
+use Rattle.buffer_laws.proofs.LentLaws.{on-well_formed}
+use Rattle.validation.specs.Tests.{checked}
+use Rattle.validation.proofs.CheckLaws.{refused_by}
 use Rattle.batch.specs.Each.{each_at}
 
 module _ (lent : ℕ) (rows : List (List ℤ)) (h : Head) (ts : List (List ℤ)) (gs : List (List ℕ)) where
   abbrev result : CallResult Batch
   result = batch_result lent (map offered_in rows) h ts gs
 
-  pub refused-one : well_formed_at h ts gs ≡ false → result ≡ Err IllFormed
+  pub refused-one : {why : Refusal} → checked (well_formed_at h ts gs) ≡ Err why → result ≡ Err why
   unfolding batch_result
-  refused-one e = ill-formed-refused (batch lent (map offered_in rows)) h ts gs e
+  refused-one e = refused_by (batch lent (map offered_in rows)) h ts gs e
 
   module _ (w : well_formed_at h ts gs ≡ true) where
     pub refused-thirteen : most_frames < length rows → result ≡ Err LentSize

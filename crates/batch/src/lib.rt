@@ -200,9 +200,7 @@ pub fn append_batch(
     ensures tags { tags.new ≡ tags_after (outcome_of (batch_result (length fates.old) (map offered_in frames.now) h.old times.old tags.old)) tags.old }
     ensures lines { fates.new ≡ list_after (outcome_of (batch_result (length fates.old) (map offered_in frames.now) h.old times.old tags.old)) fates.old }
 {
-    if !validation::well_formed(*h, times, tags) {
-        return Err(Refusal::IllFormed);
-    }
+    validation::check(h, times, tags)?;
     if MOST_FRAMES < frames.len() {
         return Err(Refusal::LentSize);
     }

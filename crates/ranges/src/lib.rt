@@ -373,9 +373,7 @@ pub fn track_ranges(
 ) -> Result<usize, Refusal>
     ensures { Reported result list.new (track_ranges_result (length list.old) track h times.now tags.now) list.old }
 {
-    if !validation::well_formed(h, times, tags) {
-        return Err(Refusal::IllFormed);
-    }
+    validation::check(&h, times, tags)?;
     if !limits::has_track(track, h.ntracks) {
         return Err(Refusal::NoTrack);
     }
@@ -397,9 +395,7 @@ pub fn common_ranges(
 ) -> Result<usize, Refusal>
     ensures { Reported result list.new (common_ranges_result (length list.old) h times.now tags.now) list.old }
 {
-    if !validation::well_formed(h, times, tags) {
-        return Err(Refusal::IllFormed);
-    }
+    validation::check(&h, times, tags)?;
     let mut spans = [[0i64; 2]; PLACES];
     let all = common_bars(
         times,
@@ -426,9 +422,7 @@ pub fn walked(
 ) -> Result<usize, Refusal>
     ensures { result ≡ walked_result room track h times.now tags.now }
 {
-    if !validation::well_formed(h, times, tags) {
-        return Err(Refusal::IllFormed);
-    }
+    validation::check(&h, times, tags)?;
     if !limits::has_track(track, h.ntracks) {
         return Err(Refusal::NoTrack);
     }

@@ -11,7 +11,7 @@ use lib.Signed.{lt_z}
 use borrow.Author.Tests.{lt-ltb, le-ltb}
 use Rattle.seconds.specs.Seconds.{Bound, unbounded, is_convertible, is_convertible_end, micros_of, bound_of}
 use Rattle.buffer_state.specs.declared.Frame.{Frame}
-use Rattle.buffer_state.specs.declared.Refusal.TheVariants.{IllFormed, ShortFates, Seconds, Order, LastNumber}
+use Rattle.buffer_state.specs.declared.Refusal.TheVariants.{ShortFates, Seconds, Order, LastNumber}
 use Rattle.buffer_state.specs.declared.Head.{Head}
 use Rattle.buffer_state.specs.Answers.{remove_result}
 use Rattle.buffer_state.specs.Append.{Outcome}
@@ -23,11 +23,12 @@ use Rattle.buffer_state.specs.Refusals.{CallResult}
 use Rattle.buffer_state.specs.Remove.{before_bound, removal_marks, after_loss, removal_lacks_group, removed_outcome, remove}
 use Rattle.buffer_state.specs.Store.{Marked, kept, lines_of}
 use Rattle.buffer_state.specs.WellFormed.{all_of}
-use Rattle.buffer_laws.proofs.LentLaws.{ill-formed-refused, on-well_formed}
+use Rattle.buffer_laws.proofs.LentLaws.{on-well_formed}
 use Rattle.taking.specs.declared.Span.{Span}
+use Rattle.taking.specs.Loss.{bound_in}
 use Rattle.taking.specs.Taking.{in_spans, taken_marks}
 use Rattle.taking.proofs.GoneLaws.{none-marked, none-gone}
-use Rattle.remove.specs.Edges.{bound_at, instant_of, in_order, stretch_of, FarSpans}
+use Rattle.remove.specs.Edges.{instant_of, in_order, stretch_of, FarSpans}
 use Rattle.remove.specs.Loss.{loss_of, is_loss, over_result, settled_by}
 use Rattle.remove.proofs.StretchLaws.{bound-back}
 use Rattle.remove.proofs.PlaceLaws.{held}
@@ -94,11 +95,11 @@ over_done s e b l = rw l
 
 -- what a stretch is answered
 abbrev pub over_stretch : Buffer → CallResult (ℤ × Option ℤ) → CallResult Outcome
-over_stretch b (Ok s) = over_result s.0 (bound_at s.1) b
+over_stretch b (Ok s) = over_result s.0 (bound_in s.1) b
 over_stretch b (Err why) = Err why
 
 order-tests : (b : Buffer) (t : Bool) (z : ℤ) (i : Option ℤ)
-    → cond t (Err Order) (over_result z (bound_at i) b) ≡ over_stretch b (cond t (Err Order) (Ok (z, i)))
+    → cond t (Err Order) (over_result z (bound_in i) b) ≡ over_stretch b (cond t (Err Order) (Ok (z, i)))
 order-tests b true z i = refl
 order-tests b false z i = refl
 
@@ -110,10 +111,6 @@ stretch-tests b false r p e = e
 module _ (lent : ℕ) (start end : Float) (h : Head) (ts : List (List ℤ)) (gs : List (List ℕ)) where
   abbrev result : CallResult Outcome
   result = remove_result lent start end h ts gs
-
-  pub ill-formed : well_formed_at h ts gs ≡ false → result ≡ Err IllFormed
-  unfolding remove_result
-  ill-formed = ill-formed-refused (remove lent start end) h ts gs
 
   pub short-list : well_formed_at h ts gs ≡ true → lent < places → result ≡ Err ShortFates
   unfolding remove_result remove
@@ -127,6 +124,6 @@ module _ (lent : ℕ) (start end : Float) (h : Head) (ts : List (List ℤ)) (gs 
       let z = micros_of start in
       let i = instant_of (bound_of end) in
       let order : Bound → Bool = λ (d : Bound). lt_z z (pos 0) || not (before_bound z d) in
-      let judged = ap (λ (d : Bound). cond (order d) (Err Order) (over_result z d b)) (sym (bound-back (bound_of end))) ∙ order-tests b (order (bound_at i)) z i in
+      let judged = ap (λ (d : Bound). cond (order d) (Err Order) (over_result z d b)) (sym (bound-back (bound_of end))) ∙ order-tests b (order (bound_in i)) z i in
       on-well_formed (remove lent start end) h ts gs w
       ∙ rw (le-ltb lent places k) (stretch-tests b (not (is_convertible start) || not (is_convertible_end end)) _ (in_order z i) judged)

@@ -8,9 +8,10 @@ use Rattle.seconds.specs.Seconds.{Bound, unbounded, at, is_convertible, is_conve
 use Rattle.seconds.specs.declared.OutOfRange.{OutOfRange}
 use Rattle.buffer_state.specs.declared.Refusal.TheVariants.{Seconds}
 use Rattle.buffer_state.specs.Refusals.{CallResult}
-use Rattle.remove.specs.Edges.{bound_at, instant_of, in_order, stretch_of}
+use Rattle.taking.specs.Loss.{bound_in}
+use Rattle.remove.specs.Edges.{instant_of, in_order, stretch_of}
 
-pub bound-back : (b : Bound) → bound_at (instant_of b) ≡ b
+pub bound-back : (b : Bound) → bound_in (instant_of b) ≡ b
 bound-back unbounded = refl
 bound-back (at z) = refl
 

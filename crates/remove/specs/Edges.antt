@@ -1,5 +1,5 @@
 -- A removal in the words of the code: instants or none, and the stretches up to the far edges of all tracks in one array.
-use Rattle.std.specs.Prelude.{Bool, true, false, cond, not, ◌&&◌, ◌||◌, List, ◌≡◌, ℕ, ◌<◌, ℤ, pos, Float, get_or, Option, None, Some, Ok, Err}
+use Rattle.std.specs.Prelude.{Bool, cond, not, ◌&&◌, ◌||◌, List, ◌≡◌, ℕ, ◌<◌, ℤ, pos, Float, get_or, Option, None, Some, Ok, Err}
 use Rattle.std.specs.Int.Signed.{lt_z}
 use Rattle.seconds.specs.Seconds.{Bound, unbounded, at, is_convertible, is_convertible_end, micros_of, bound_of}
 use Rattle.buffer_state.specs.declared.Frame.{Frame}
@@ -7,16 +7,12 @@ use Rattle.buffer_state.specs.declared.Refusal.TheVariants.{Seconds, Order}
 use Rattle.buffer_state.specs.Refusals.{CallResult}
 use Rattle.buffer_state.specs.Remove.{before_bound, far_edge}
 use Rattle.taking.specs.declared.Span.{Span}
+use Rattle.taking.specs.Loss.{bound_in}
 use Rattle.taking.specs.Taking.{no_span}
 
 -- ---- bounds
 
--- the bound that an instant is, or none
-abbrev pub bound_at : Option ℤ → Bound
-bound_at None = unbounded
-bound_at (Some z) = at z
-
--- and back
+-- the instant that a bound is, which need not be there
 abbrev pub instant_of : Bound → Option ℤ
 instant_of unbounded = None
 instant_of (at z) = Some z
@@ -25,7 +21,7 @@ instant_of (at z) = Some z
 
 -- refusal 6, or the start and the end
 abbrev pub in_order : ℤ → Option ℤ → CallResult (ℤ × Option ℤ)
-in_order s e = cond (lt_z s (pos 0) || not (before_bound s (bound_at e))) (Err Order) (Ok (s, e))
+in_order s e = cond (lt_z s (pos 0) || not (before_bound s (bound_in e))) (Err Order) (Ok (s, e))
 
 -- refusal 5 of either time, then by the order
 abbrev pub stretch_of : Float → Float → CallResult (ℤ × Option ℤ)

@@ -11,7 +11,7 @@ ghost use Rattle.buffer_state.specs.Limits.{places, last_group};
 ghost use Rattle.buffer_state.specs.Remove.{before_bound};
 ghost use Rattle.taking.specs.Loss.{bound_in, loss_of};
 ghost use Rattle.taking.specs.Taking.{in_spans, taken_marks, IsFirstIn};
-ghost use Rattle.remove.specs.Edges.{bound_at, in_order, stretch_of, beyond, opens_after, FarSpans};
+ghost use Rattle.remove.specs.Edges.{in_order, stretch_of, beyond, opens_after, FarSpans};
 ghost use Rattle.remove.specs.Loss.{is_loss, over_result, settled_by};
 
 use buffer_state::{Frame, Head, LAST_GROUP, PLACES, Refusal, Tags, Times, Track};
@@ -23,7 +23,7 @@ const BEYOND: i64 = 4000000000001; // past every presentation time
 
 // Whether z is before the instant; where there is none, it is.
 fn is_before(z: i64, end: Option<i64>) -> bool
-    ensures { result ≡ before_bound z (bound_at end) }
+    ensures { result ≡ before_bound z (bound_in end) }
 {
     end.is_none_or(|e| z < e)
 }
@@ -58,7 +58,7 @@ fn open_from(start: i64) -> Span
 
 // A flagged frame at or after the end.
 fn opens(f: Frame, end: Option<i64>) -> bool
-    ensures { result ≡ opens_after (bound_at end) f }
+    ensures { result ≡ opens_after (bound_in end) f }
 {
     f.flagged && !is_before(f.pts, end)
 }
@@ -73,7 +73,7 @@ fn far_spans(
     tags: &[[u32; 5]],
 ) -> [Span; 5]
     requires { (well_formed_at h times.now tags.now ≡ true) × (whole.end ≡ beyond) }
-    ensures { FarSpans whole.start (bound_at end) (take h.nframes (frames_of times.now tags.now)) result }
+    ensures { FarSpans whole.start (bound_in end) (take h.nframes (frames_of times.now tags.now)) result }
 {
     let mut spans = [whole; 5];
     for i in (0..h.nframes).rev() {
@@ -151,11 +151,11 @@ fn remove_over(
     fates: &mut [[u32; 2]],
 ) -> Result<usize, Refusal>
     requires { (well_formed_at h.old times.old tags.old ≡ true) × (places ≤ length fates.old) }
-    ensures answer { result ≡ line_count (over_result start (bound_at end) (buffer_of (state_at h.old times.old tags.old))) }
-    ensures head { h.new ≡ head_after (over_result start (bound_at end) (buffer_of (state_at h.old times.old tags.old))) h.old }
-    ensures times { times.new ≡ times_after (over_result start (bound_at end) (buffer_of (state_at h.old times.old tags.old))) times.old }
-    ensures tags { tags.new ≡ tags_after (over_result start (bound_at end) (buffer_of (state_at h.old times.old tags.old))) tags.old }
-    ensures lines { fates.new ≡ list_after (over_result start (bound_at end) (buffer_of (state_at h.old times.old tags.old))) fates.old }
+    ensures answer { result ≡ line_count (over_result start (bound_in end) (buffer_of (state_at h.old times.old tags.old))) }
+    ensures head { h.new ≡ head_after (over_result start (bound_in end) (buffer_of (state_at h.old times.old tags.old))) h.old }
+    ensures times { times.new ≡ times_after (over_result start (bound_in end) (buffer_of (state_at h.old times.old tags.old))) times.old }
+    ensures tags { tags.new ≡ tags_after (over_result start (bound_in end) (buffer_of (state_at h.old times.old tags.old))) tags.old }
+    ensures lines { fates.new ≡ list_after (over_result start (bound_in end) (buffer_of (state_at h.old times.old tags.old))) fates.old }
 {
     let n = h.nframes;
     let spans = far_spans(*h, open_from(start), end, times, tags);
@@ -186,9 +186,7 @@ pub fn remove(
     ensures tags { tags.new ≡ tags_after (remove_result (length fates.old) start end h.old times.old tags.old) tags.old }
     ensures lines { fates.new ≡ list_after (remove_result (length fates.old) start end h.old times.old tags.old) fates.old }
 {
-    if !validation::well_formed(*h, times, tags) {
-        return Err(Refusal::IllFormed);
-    }
+    validation::check(h, times, tags)?;
     if fates.len() < PLACES {
         return Err(Refusal::ShortFates);
     }

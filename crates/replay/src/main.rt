@@ -27,7 +27,7 @@ use script::words::{Unmade, Words, natural};
 use slots::{Session, Slot};
 use std::alloc::Global;
 use std::io;
-use std::io::{BufReader, BufWriter, Write};
+use std::io::{BufRead, BufReader, Write};
 use text::Output;
 use unread::{Told, Unread};
 
@@ -277,22 +277,29 @@ fn on_buffer(
 
 // ---- the run
 
-fn main(rt: HostRuntime) -> io::Result<()> {
-    let alloc = rt.alloc();
-    let mut lines = Lines::new(alloc, BufReader::new(alloc, rt.reader())?);
-    let mut out = Output::new(BufWriter::new(alloc, rt.stdout())?);
-    let mut replay = Replay::new(alloc);
+fn answer_all<R: BufRead + Drop>(
+    replay: &mut Replay,
+    lines: &mut Lines<R>,
+    out: &mut impl Write,
+) -> io::Result<()> {
     for _ in 0..u64::MAX {
         if !lines.advance()? {
             break;
         }
-        replay.on_line(lines.line(), &mut out)?;
-        out.flush()?; // an answer is written before the next line is read
+        replay.on_line(lines.line(), out)?;
     }
-    replay.end(&mut out)?;
-    out.flush()?;
+    replay.end(out)
+}
+
+// What was not read or not written is told also where memory was lacking, which alone ends a run before its script does.
+fn main(rt: HostRuntime) -> io::Result<()> {
+    let alloc = rt.alloc();
+    let mut lines = Lines::new(alloc, BufReader::new(alloc, rt.reader())?);
+    let mut out = Output::new(rt.stdout());
+    let mut replay = Replay::new(alloc);
+    let ended = answer_all(&mut replay, &mut lines, &mut out);
     let mut error = rt.stderr();
     let _ = replay.unread.tell(&mut error); // where that fails, nothing more can be said
     out.tell_failed("replay", &mut error);
-    Ok(())
+    ended
 }

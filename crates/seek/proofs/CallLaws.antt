@@ -17,9 +17,7 @@ use Rattle.buffer_state.specs.Buffer.{Buffer, has_track}
 use Rattle.buffer_state.specs.Layout.{zero_frame, buffer_of}
 use Rattle.buffer_state.specs.Lent.{frames_of, state_at, well_formed_at}
 use Rattle.buffer_state.specs.Limits.{places}
-use Rattle.buffer_state.specs.Refusals.{CallResult}
 use Rattle.buffer_state.specs.Run.{stored_on}
-use Rattle.buffer_state.specs.declared.Start.{Start}
 use Rattle.buffer_state.specs.Seek.{Target, none, picked, target_of, from_flagged, to_decode, start_by, start_to, seek}
 use Rattle.buffer_state.specs.WellFormed.{good_frame}
 use Rattle.buffer_laws.proofs.GoodLaws.{IsGood, good-facts, frame-facts}
@@ -48,7 +46,7 @@ seek-few track t b =
     (λ _. to-within track t b (target_of track t b.frames) refl)
 
 module _ (track : ℕ) (t : ℤ) (h : Head) (ts : List (List ℤ)) (gs : List (List ℕ)) where
-  pub seek-ill-formed : well_formed_at h ts gs ≡ false → seek_result track t h ts gs ≡ Err IllFormed
+  seek-ill-formed : well_formed_at h ts gs ≡ false → seek_result track t h ts gs ≡ Err IllFormed
   unfolding seek_result
   seek-ill-formed e = ill-formed-refused (seek track t) h ts gs e
 

@@ -11,16 +11,15 @@ use lib.Seq.{get_or-take}
 use lib.Signed.{lt_z}
 use Rattle.std.specs.declared.cmp.Ordering.TheVariants.{Less, Equal, Greater}
 use Rattle.std.specs.Ordering.{nat_cmp, int_cmp, ordering_then, is_lt}
-use borrow.Author.Tests.{eq-eqb, ne_eqb}
 use Rattle.laws.proofs.ListLaws.{first_next, first-end}
 use Rattle.buffer_state.specs.declared.Frame.{Frame}
 use Rattle.buffer_state.specs.Layout.{zero_frame}
 use Rattle.buffer_state.specs.Limits.{result_time}
 use Rattle.buffer_state.specs.Ranges.{covers}
-use Rattle.buffer_state.specs.Seek.{Target, none, picked, over, pick, target_of}
+use Rattle.buffer_state.specs.Seek.{Target, none, over, pick, target_of}
 use Rattle.buffer_state.specs.WellFormed.{all_of}
 use Rattle.buffer_laws.proofs.TestLaws.{all_get_d}
-use Rattle.seek.specs.Places.{is_timed, placed_target}
+use Rattle.seek.specs.Places.{is_timed}
 
 -- ---- a frame whose time is known
 

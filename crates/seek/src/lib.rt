@@ -104,9 +104,7 @@ pub fn seek(h: Head, times: &Times, tags: &Tags, track: u32, instant: i64) -> Re
     ensures answer { result ≡ seek_result track instant h times.now tags.now }
     ensures within { Within (stored_on track (buffer_of (state_at h times.now tags.now))) result }
 {
-    if !validation::well_formed(h, times, tags) {
-        return Err(Refusal::IllFormed);
-    }
+    validation::check(&h, times, tags)?;
     if !limits::has_track(track, h.ntracks) {
         return Err(Refusal::NoTrack);
     }

@@ -4,13 +4,13 @@ use mir.ValLaws.{to_z-of_z}
 use Rattle.laws.proofs.BoolLaws.{and_both}
 use Rattle.laws.proofs.WordLaws.{told₂}
 use Rattle.laws.proofs.ListLaws.{first_next, first-end}
-use Rattle.seconds.specs.Seconds.{at}
 use Rattle.buffer_state.specs.declared.Frame.{Frame}
 use Rattle.buffer_state.specs.Layout.{zero_frame}
 use Rattle.buffer_state.specs.Lent.{frames_of}
 use Rattle.taking.specs.declared.Span.{Span}
+use Rattle.taking.specs.Loss.{bound_in}
 use Rattle.taking.specs.Taking.{no_span}
-use Rattle.remove.specs.Edges.{bound_at, beyond, is_nearer, up_to, FarSpans}
+use Rattle.remove.specs.Edges.{beyond, is_nearer, FarSpans}
 use Rattle.remove.proofs.EdgeLaws.{spans-none, spans-nearer, spans-same}
 use Rattle.remove.proofs.PlaceLaws.{laid, long, few, is_good, frame-good, good-inside, good-shown}
 use Rattle.remove.proofs.far_spans.Goals as goal
@@ -43,7 +43,7 @@ front c =
     first_next (frames_of a.times.now a.tags.now) a.h.nframes (few a.h a.times.now a.tags.now c.requires.0) (c.loop-i.i - 1) zero_frame (below c)
     ∙ ap (λ (f : Frame). f ∷ rest c) (sym c.frame_at-f.ensures)
 
-further : (c : After-frame_at-f) → FarSpans c.args.whole.start (bound_at c.args.end) (rest c) c.loop-i.spans
+further : (c : After-frame_at-f) → FarSpans c.args.whole.start (bound_in c.args.end) (rest c) c.loop-i.spans
 further c =
     let next : (c.loop-i.i - 1) + 1 ≡ c.loop-i.i = omega arith in
     rw next c.loop-i.invariant.1
@@ -53,7 +53,7 @@ loop-i-init c =
     let a = c.args in
     let fs = frames_of a.times.now a.tags.now in
     let none : drop a.h.nframes (take a.h.nframes fs) ≡ [] = first-end fs a.h.nframes (few a.h a.times.now a.tags.now c.requires.0) a.h.nframes (omega arith) in
-    (refl, rw none (spans-none a.whole.start (bound_at a.end) a.whole refl c.requires.1))
+    (refl, rw none (spans-none a.whole.start (bound_in a.end) a.whole refl c.requires.1))
 
 pub frame_at-f-requires : goal.frame_at-f-requires
 frame_at-f-requires c =
@@ -80,14 +80,14 @@ loop-i-preserved-then-f-spans c =
     let sooner = sym (told₂ f.pts (get_or c.loop-i.spans f.track no_span).end fits ends lt_z (sym c.if-f-spans.true)) in (
       length-set c.loop-i.spans _ _ ∙ c.loop-i.invariant.0,
       rw (front d)
-          (spans-nearer s (bound_at c.args.end) c.loop-i.spans (rest d) f (inside d) (shown d) (further d) c.loop-i.invariant.0
+          (spans-nearer s (bound_in c.args.end) c.loop-i.spans (rest d) f (inside d) (shown d) (further d) c.loop-i.invariant.0
           (and_both (sym c.opens.ensures ∙ c.if-opens.true) sooner) _ (λ j. record { start = start j; end = end j })),
     )
 
 pub loop-i-preserved : goal.loop-i-preserved
 loop-i-preserved c =
     let d = (goal.at.loop-i-preserved c).After-frame_at-f in
-    let e = bound_at c.args.end in
+    let e = bound_in c.args.end in
     let f = c.frame_at-f.result in
     let nearer = is_nearer f e (get_or c.loop-i.spans f.track no_span).end in
     let none : nearer ≡ false = elim c.else-opens.branch [

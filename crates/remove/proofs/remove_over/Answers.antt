@@ -16,7 +16,7 @@ use Rattle.buffer_laws.proofs.AnswerLaws.{answered}
 use Rattle.buffer_laws.proofs.LentLaws.{lent_back}
 use Rattle.taking.specs.Loss.{loss_of as loss_in, bound_in}
 use Rattle.taking.specs.Taking.{in_spans, taken_marks}
-use Rattle.remove.specs.Edges.{bound_at, FarSpans}
+use Rattle.remove.specs.Edges.{FarSpans}
 use Rattle.remove.specs.Loss.{loss_of, is_loss, settled_by}
 use Rattle.remove.proofs.CallLaws.{over-refused, over_done, by-loss, head-left, kept_left, lines-told, nothing-goes}
 use Rattle.remove.proofs.LossLaws.{taken-loss}
@@ -26,10 +26,10 @@ use Rattle.remove.proofs.remove_over.Goals.{After-far_spans-spans, After-lacks_g
 
 -- the stretches begin at the start
 far : (c : After-far_spans-spans) → let a = c.args in
-    FarSpans a.start (bound_at a.end) (held a.h.now a.times.now a.tags.now).frames c.far_spans-spans.result
+    FarSpans a.start (bound_in a.end) (held a.h.now a.times.now a.tags.now).frames c.far_spans-spans.result
 far c =
     let a = c.args in
-    subst (λ (z : ℤ). FarSpans z (bound_at a.end) (held a.h.now a.times.now a.tags.now).frames c.far_spans-spans.result)
+    subst (λ (z : ℤ). FarSpans z (bound_in a.end) (held a.h.now a.times.now a.tags.now).frames c.far_spans-spans.result)
     (told a.start c.ranges.start (λ z. z) c.open_from.ensures.0)
     c.far_spans-spans.ensures
 
@@ -48,12 +48,12 @@ lost c =
 
 -- so refusal 9 is the definition's
 lacking : (c : After-lacks_group) → let a = (spanned c).args in
-    c.lacks_group.result ≡ removal_lacks_group a.start (bound_at a.end) (held a.h.now a.times.now a.tags.now)
+    c.lacks_group.result ≡ removal_lacks_group a.start (bound_in a.end) (held a.h.now a.times.now a.tags.now)
 lacking c =
     let g = spanned c in
     let a = g.args in
     c.lacks_group.ensures ∙ ap (λ (l : Bound). is_loss l && eqb a.h.now.group.number last_group) (lost c)
-    ∙ by-loss a.h.now a.times.now a.tags.now g.requires.0 a.start (bound_at a.end) g.far_spans-spans.result (far g)
+    ∙ by-loss a.h.now a.times.now a.tags.now g.requires.0 a.start (bound_in a.end) g.far_spans-spans.result (far g)
 
 pub first_in-requires : goal.first_in-requires
 first_in-requires c =
@@ -69,7 +69,7 @@ returns-in_default c =
     let none : all_of (λ (x : Frame). not (in_spans c.far_spans-spans.result x)) stored ≡ true =
     ap (all_of (λ (x : Frame). not (in_spans c.far_spans-spans.result x))) (sym (take_all a.h.now.nframes stored (omega (arith, count)))) ∙ c.in_default.ensures.before in
     let back = lent_back a.h.now a.times.now a.tags.now c.requires.0 in let told = answered a.h.now a.times.now a.tags.now a.fates.now (Ok (record { after = held a.h.now a.times.now a.tags.now; lines = [] }))
-    (nothing-goes a.h.now a.times.now a.tags.now c.requires.0 a.start (bound_at a.end) c.far_spans-spans.result (far (goal.at.returns-in_default c).After-far_spans-spans) none)
+    (nothing-goes a.h.now a.times.now a.tags.now c.requires.0 a.start (bound_in a.end) c.far_spans-spans.result (far (goal.at.returns-in_default c).After-far_spans-spans) none)
     refl
     back.head
     back.times
@@ -79,7 +79,7 @@ returns-in_default c =
 pub returns-then-lacks_group : goal.returns-then-lacks_group
 returns-then-lacks_group c =
     let a = (spanned (goal.at.returns-then-lacks_group c).After-lacks_group).args in let told = answered a.h.now a.times.now a.tags.now a.fates.now (Err LastNumber)
-    (over-refused a.start (bound_at a.end) (held a.h.now a.times.now a.tags.now) (sym (lacking (goal.at.returns-then-lacks_group c).After-lacks_group) ∙ c.if-lacks_group.true)) refl refl refl refl refl in record { answer = told.0; head = told.1.0; times = told.1.1.0; tags = told.1.1.1.0; lines = told.1.1.1.1 }
+    (over-refused a.start (bound_in a.end) (held a.h.now a.times.now a.tags.now) (sym (lacking (goal.at.returns-then-lacks_group c).After-lacks_group) ∙ c.if-lacks_group.true)) refl refl refl refl refl in record { answer = told.0; head = told.1.0; times = told.1.1.0; tags = told.1.1.1.0; lines = told.1.1.1.1 }
 
 pub take_in-out-requires : goal.take_in-out-requires
 take_in-out-requires c =
@@ -108,12 +108,12 @@ returns c =
     let g = spanned (goal.at.returns c).After-lacks_group in
     let a = g.args in
     let out = c.take_in-out.ensures in
-    let head = head-left a.h.now a.times.now a.tags.now g.requires.0 a.start (bound_at a.end) g.far_spans-spans.result (far g) in
-    let left = kept_left a.h.now a.times.now a.tags.now g.requires.0 a.start (bound_at a.end) g.far_spans-spans.result (far g) in
-    let lines = lines-told a.h.now a.times.now a.tags.now g.requires.0 a.start (bound_at a.end) g.far_spans-spans.result (far g) in
+    let head = head-left a.h.now a.times.now a.tags.now g.requires.0 a.start (bound_in a.end) g.far_spans-spans.result (far g) in
+    let left = kept_left a.h.now a.times.now a.tags.now g.requires.0 a.start (bound_in a.end) g.far_spans-spans.result (far g) in
+    let lines = lines-told a.h.now a.times.now a.tags.now g.requires.0 a.start (bound_in a.end) g.far_spans-spans.result (far g) in
     let settled = c.settled.ensures ∙ ap₂ (λ (x : Bound) (n : ℕ). settled_by x n a.h.now) (out.lost ∙ lost (goal.at.returns c).After-lacks_group) out.counts.0 ∙ head in
     let answer = ap Ok (out.counts.1 ∙ ap length lines) in let told = answered a.h.now a.times.now a.tags.now a.fates.now _
-    (over_done a.start (bound_at a.end) (held a.h.now a.times.now a.tags.now) (sym (lacking (goal.at.returns c).After-lacks_group) ∙ c.if-lacks_group.false))
+    (over_done a.start (bound_in a.end) (held a.h.now a.times.now a.tags.now) (sym (lacking (goal.at.returns c).After-lacks_group) ∙ c.if-lacks_group.false))
     answer
     settled
     (out.times ∙ ap (λ (x : List Frame). times_of (padded_list places zero_frame x)) left)

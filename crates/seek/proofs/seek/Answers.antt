@@ -3,18 +3,20 @@ use Rattle.std.specs.Result.{result_ok}
 use mir.ValLaws.{to_z-of_z}
 use Rattle.buffer_state.specs.declared.Refusal.TheVariants.{NoStart}
 use Rattle.buffer_state.specs.declared.Start.{Start}
+use Rattle.buffer_state.specs.Answers.{seek_result}
 use Rattle.buffer_state.specs.Refusals.{CallResult}
 use Rattle.buffer_state.specs.Layout.{buffer_of}
 use Rattle.buffer_state.specs.Lent.{frames_of, state_at, well_formed_at}
 use Rattle.buffer_state.specs.Run.{stored_on}
-use Rattle.buffer_state.specs.Seek.{target_of}
+use Rattle.buffer_state.specs.Seek.{target_of, seek}
+use Rattle.validation.proofs.CheckLaws.{passed, refused_by, handed_on}
 use Rattle.seek.specs.Places.{placed_target, Within}
-use Rattle.seek.proofs.CallLaws.{seek-ill-formed, seek-unknown, seek-uncovered, seek-walked, seek-within, well_formed-stands}
+use Rattle.seek.proofs.CallLaws.{seek-unknown, seek-uncovered, seek-walked, seek-within, well_formed-stands}
 use Rattle.seek.proofs.seek.Goals as goal
-use Rattle.seek.proofs.seek.Goals.{Else-not-well_formed, After-target_at}
+use Rattle.seek.proofs.seek.Goals.{In_ok-check, After-target_at}
 
-well : (e : Else-not-well_formed) → let a = e.args in well_formed_at a.h a.times.now a.tags.now ≡ true
-well e = sym e.well_formed-2.ensures ∙ e.if-not-well_formed.false
+well : (e : In_ok-check) → let a = e.args in well_formed_at a.h a.times.now a.tags.now ≡ true
+well e = passed _ (sym e.check.ensures ∙ e.in_ok-check.was)
 
 -- what the target is, by its place
 found : (c : After-target_at) → let a = c.args in
@@ -25,34 +27,35 @@ found c =
     ap (λ (t : ℤ). target_of a.track t (take a.h.nframes (frames_of a.times.now a.tags.now))) (sym (to_z-of_z w64 a.instant c.ranges.instant))
     ∙ c.target_at.ensures.target
 
-pub returns-then-not-well_formed-clause-answer : goal.returns-then-not-well_formed-clause-answer
-returns-then-not-well_formed-clause-answer c =
+pub returns-in_err-check-clause-answer : goal.returns-in_err-check-clause-answer
+unfolding seek_result
+returns-in_err-check-clause-answer c =
     let a = c.args in
-    sym (seek-ill-formed a.track a.instant a.h a.times.now a.tags.now (sym c.well_formed-2.ensures ∙ c.if-not-well_formed.true))
+    handed_on _ c.from_residual.ensures.1 ∙ sym (refused_by (seek a.track a.instant) a.h a.times.now a.tags.now (sym c.check.ensures ∙ c.in_err-check.was))
 
 pub returns-then-not-has_track-clause-answer : goal.returns-then-not-has_track-clause-answer
 returns-then-not-has_track-clause-answer c =
     let a = c.args in
-    sym (seek-unknown a.track a.instant a.h a.times.now a.tags.now (well (goal.at.returns-then-not-has_track-clause-answer c).Else-not-well_formed) _ c.has_track.ensures c.if-not-has_track.true)
+    sym (seek-unknown a.track a.instant a.h a.times.now a.tags.now (well (goal.at.returns-then-not-has_track-clause-answer c).In_ok-check) _ c.has_track.ensures c.if-not-has_track.true)
 
 pub target_at-requires : goal.target_at-requires
 target_at-requires c =
     let a = c.args in
-    well_formed-stands a.track a.instant a.h a.times.now a.tags.now (well (goal.at.target_at-requires c).Else-not-well_formed)
+    well_formed-stands a.track a.instant a.h a.times.now a.tags.now (well (goal.at.target_at-requires c).In_ok-check)
 
 pub returns-in_err-at-clause-answer : goal.returns-in_err-at-clause-answer
 returns-in_err-at-clause-answer c =
     let a = c.args in
     let o = c.ok_or.ensures in
     let none : c.target_at.result ≡ None = o.ok_part ∙ ap result_ok c.in_err-at.was in
-    let refused : ◌≡◌ {A = CallResult Start} c.from_residual.result (Err NoStart) = search rules in
+    let refused : ◌≡◌ {A = CallResult Start} c.from_residual-in_err-at.result (Err NoStart) = search rules in
     let target = found (goal.at.returns-in_err-at-clause-answer c).After-target_at ∙ ap (placed_target (frames_of a.times.now a.tags.now)) none in
-    refused ∙ sym (seek-uncovered a.track a.instant a.h a.times.now a.tags.now (well (goal.at.returns-in_err-at-clause-answer c).Else-not-well_formed) _ c.has_track.ensures c.if-not-has_track.false target)
+    refused ∙ sym (seek-uncovered a.track a.instant a.h a.times.now a.tags.now (well (goal.at.returns-in_err-at-clause-answer c).In_ok-check) _ c.has_track.ensures c.if-not-has_track.false target)
 
 pub walk_back-requires : goal.walk_back-requires
 walk_back-requires c =
     let a = c.args in
-    let s = well_formed-stands a.track a.instant a.h a.times.now a.tags.now (well (goal.at.walk_back-requires c).Else-not-well_formed) in
+    let s = well_formed-stands a.track a.instant a.h a.times.now a.tags.now (well (goal.at.walk_back-requires c).In_ok-check) in
     let some : c.target_at.result ≡ Some c.in_ok-at.at = c.ok_or.ensures.ok_part ∙ ap result_ok c.in_ok-at.was in
     let inside : c.in_ok-at.at < a.h.nframes = subst (λ (o : Option ℕ). IfSome o (λ (place : ℕ). place < a.h.nframes)) some c.target_at.ensures.within in
     (s.long, omega (arith, inside, s.few))
@@ -65,7 +68,7 @@ returns-clause-answer c =
     let inside : c.in_ok-at.at < a.h.nframes = subst (λ (o : Option ℕ). IfSome o (λ (place : ℕ). place < a.h.nframes)) some c.target_at.ensures.within in
     let target = found (goal.at.returns-clause-answer c).After-target_at ∙ ap (placed_target fs) some in
     c.walk_back.ensures
-    ∙ sym (seek-walked a.track a.instant a.h a.times.now a.tags.now (well (goal.at.returns-clause-answer c).Else-not-well_formed) _ c.has_track.ensures c.if-not-has_track.false c.in_ok-at.at inside target)
+    ∙ sym (seek-walked a.track a.instant a.h a.times.now a.tags.now (well (goal.at.returns-clause-answer c).In_ok-check) _ c.has_track.ensures c.if-not-has_track.false c.in_ok-at.at inside target)
 
 pub returns-clause-within : goal.returns-clause-within
 returns-clause-within c =

@@ -1,4 +1,4 @@
-use Rattle.std.proofs.Common.{◌≡◌, sym, ap, ◌∙◌, ◌&&◌, ◌-◌, ◌≤◌, arith, eqb, cond, ℤ, length, get_or, w64, to_z, of_z}
+use Rattle.std.proofs.Common.{◌≡◌, sym, ap, ◌∙◌, ◌&&◌, ◌-◌, ◌≤◌, arith, eqb, ℤ, length, get_or, w64, to_z, of_z}
 use Rattle.buffer_state.specs.declared.Frame.{Frame}
 use Rattle.buffer_state.specs.Layout.{zero_frame}
 use Rattle.buffer_state.specs.Lent.{frames_of}
