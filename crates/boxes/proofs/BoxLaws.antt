@@ -1,6 +1,6 @@
 -- Laws of the definitions of specs/Boxes.antt and specs/Items.antt: numbers at a place, what a head that was found fits, and how a list of
 -- boxes opens at its first box. Assumes nothing.
-use mathlib.Core.Path.{◌≡◌, refl, sym, ap, ◌∙◌}
+use mathlib.Core.Path.{◌≡◌, refl, sym, ap, ◌∙◌, subst}
 use mathlib.Core.List.{List, [], ◌∷◌}
 use Prim.Native.Nat.{ℕ, zero, suc, ◌+◌, ◌*◌, ◌-◌, ◌≤◌, ◌<◌}
 use native.Mathlib.Omega.{arith}
@@ -9,12 +9,14 @@ use borrow.Author.Tests.{leb-true}
 use Rattle.laws.proofs.BoolLaws.{by-test}
 use lib.ListN.{length, get_or, take, drop}
 use lib.Seq.{get_or-drop, drop-drop}
+use Rattle.std.proofs.lemmas.List.{length-drop, length-take-le}
 use lib.Dec.{ltb, leb, eqb}
 use Rattle.std.specs.Prelude.{Option, Some, None, Result, Ok, Err}
+use Rattle.std.specs.List.{slice_range}
 use Rattle.std.specs.Int.{w32, w64, from_be_bytes}
 use Rattle.boxes.specs.declared.Header.{Header}
 use Rattle.boxes.specs.declared.Malformed.{Malformed}
-use Rattle.boxes.specs.Boxes.{be4, be8, Mp4Box, refused, sized_of, front_of, onto, box_of, split_front, step_of, following_boxes, skipping, boxes_of}
+use Rattle.boxes.specs.Boxes.{be4, be8, Mp4Box, refused, sized_of, front_of, onto, box_of, split_front, step_of, size_by, past_front, length_by, before_body, body_start, following_boxes, skipping, boxes_of}
 use Rattle.boxes.specs.Items.{following_items, items_past, items_of, collected}
 
 -- the number in 4 bytes from a place on, by its bytes
@@ -110,6 +112,32 @@ pub boxes-end : (s : List ℕ) → front_of s ≡ Ok None → boxes_of s ≡ Ok 
 unfolding skipping
 boxes-end [] e = refl
 boxes-end (b ∷ s) e = rw e
+
+-- how a box that was found at a place ends: further on, and with its body
+pub record Ends (s : List ℕ) (at next : ℕ) (body : List ℕ) : Type 0 where
+  pub start : next - length body ≡ body_start s at
+  pub further : at < next
+  pub bytes : slice_range s (next - length body) next ≡ body
+
+pub box_found : (s : List ℕ) (at next : ℕ) (x : Mp4Box) (rest : List ℕ) → step_of (drop at s) ≡ Ok (Some (x, rest)) → next ≡ at + past_front (drop at s) → Ends s at next x.body
+box_found s at next x rest e n = go (front_of (drop at s)) refl e
+  where
+    go : (f : Result (Option Header) Malformed) → front_of (drop at s) ≡ f → split_front (drop at s) f ≡ Ok (Some (x, rest)) → Ends s at next x.body
+    go (Ok None) i j = let z : ◌≡◌ {A = ℕ} 0 1 = cc in absurd (omega arith)
+    go (Err y) i j = let z : ◌≡◌ {A = ℕ} 0 1 = cc in absurd (omega arith)
+    go (Ok (Some h)) i j =
+        let p : ◌≡◌ {A = Mp4Box × List ℕ} (box_of (drop at s) h, drop h.size (drop at s)) (x, rest) = cc in
+        let m : next ≡ at + h.size = n ∙ ap (λ f. at + size_by f) i in
+        let b : before_body (drop at s) ≡ h.length = ap length_by i in
+        let k = found_inside (drop at s) h i in
+        let d : length (take (h.size - h.length) (drop h.length (drop at s))) ≡ h.size - h.length = length-take-le _ _ (omega (arith, length-drop h.length (drop at s))) in
+        let a : at + h.size - (h.size - h.length) ≡ at + h.length = omega arith in
+        let c : at + h.size - (at + h.length) ≡ h.size - h.length = omega arith in
+        subst (λ z. Ends s at next z.0.body) p (record {
+          start = rw (d, m, b, a) refl;
+          further = omega arith;
+          bytes = rw (d, m, a, c) (ap (take (h.size - h.length)) (sym (drop-drop h.length at s)));
+        })
 
 -- ---- the items of a loop
 

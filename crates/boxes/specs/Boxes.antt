@@ -84,6 +84,15 @@ size_by (Ok (Some h)) = h.size
 abbrev pub past_front : List ℕ → ℕ
 past_front s = size_by (front_of s)
 
+-- how many bytes of header stand before the body of the box at the front; none where there is no box
+abbrev pub length_by : Result (Option Header) Malformed → ℕ
+length_by (Ok None) = 0
+length_by (Err e) = 0
+length_by (Ok (Some h)) = h.length
+
+abbrev pub before_body : List ℕ → ℕ
+before_body s = length_by (front_of s)
+
 -- a box that was handed out, without where it lies in memory
 abbrev pub part_of : BoxPart → Mp4Box
 part_of p = record { kind = p.kind; body = p.body.now }
@@ -98,3 +107,26 @@ Takes (Err e) old new = (step_of old ≡ Err e) × (new ≡ old)
 abbrev pub Gives : {X Y : Type 0} → (X → Y) → Result X Malformed → Result Y Malformed → Type 0
 Gives view (Ok x) y = y ≡ Ok (view x)
 Gives view (Err e) y = y ≡ Err e
+
+-- ---- where a body stands: in the slice itself, never a copy
+
+-- where bytes stand in memory: a block and a place in it
+abbrev pub Pointer : Type 0
+Pointer = ℕ × ℕ
+
+-- so many bytes further on
+abbrev pub moved_by : ℕ → Pointer → Pointer
+moved_by n p = (p.0, n + p.1)
+
+-- where the body of the box at a place begins, and where it stands in a slice that stands at p
+abbrev pub body_start : List ℕ → ℕ → ℕ
+body_start s at = at + before_body (drop at s)
+
+abbrev pub body_at : Pointer → List ℕ → ℕ → Pointer
+body_at p s at = moved_by (body_start s at) p
+
+-- the body of a box that a call found stands there
+abbrev pub Stands : Result (Option BoxPart) Malformed → Pointer → Type 0
+Stands (Ok None) p = Unit {0}
+Stands (Ok (Some part)) p = part.body.ref_ptr ≡ p
+Stands (Err e) p = Unit {0}

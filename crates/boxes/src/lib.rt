@@ -2,10 +2,10 @@
 // one box of a type that a body must have. Each body is handed on as a part of the slice.
 #![tactic(auto)]
 
-ghost use Rattle.std.specs.Prelude.{◌≡◌, ◌+◌, ◌≤◌, ◌<◌, ℕ, List, None, length, drop};
+ghost use Rattle.std.specs.Prelude.{◌≡◌, ◌+◌, ◌≤◌, ◌<◌, ℕ, List, None, IfOk, length, drop};
 ghost use Rattle.buffer_state.specs.declared.Refusal.TheVariants as refusals;
-ghost use Rattle.boxes.specs.Boxes.{be4, be8, sized_of, front_of, past_front, boxes_of, Gives, Takes};
-ghost use Rattle.boxes.specs.Lone.{lone_in};
+ghost use Rattle.boxes.specs.Boxes.{be4, be8, sized_of, front_of, past_front, boxes_of, Gives, Takes, body_start, body_at, Stands};
+ghost use Rattle.boxes.specs.Lone.{lone_in, place_of, IsPart};
 
 use buffer_state::Refusal;
 use std::marker::Model;
@@ -114,6 +114,7 @@ impl Cursor {
         ensures step { Takes result (drop self.old.at s.now) (drop self.new.at s.now) }
         ensures place { self.new.at ≡ self.old.at + past_front (drop self.old.at s.now) }
         ensures within { self.new.at ≤ length s.now }
+        ensures stands { Stands result (body_at s.entry.ref_ptr s.now self.old.at) }
     {
         let rest = &s[self.at..];
         let Some(header) = first_box(rest)? else {
@@ -189,21 +190,24 @@ impl<'a> Iterator for BoxReader<'a> {
 
 /// The body of the one box of a type, which stands before every box of a second type. Where it is missing, doubled or after one of those,
 /// or the slice is not made of boxes, it is malformed.
-#[tactic(auto, unfolding(crate::specs::Lone::lone_among), using(crate::proofs::LoneLaws::among_all))]
+#[tactic(auto, unfolding(crate::specs::Lone::lone_among), using(crate::proofs::BoxLaws::items_of_step, crate::proofs::LoneLaws::among_all))]
 pub fn lone(s: &[u8], kind: u32, after: u32) -> Result<&[u8], Malformed>
-    ensures { Gives (λ body. body.now) result (lone_in kind after (boxes_of s.now)) }
+    ensures value { Gives (λ body. body.now) result (lone_in kind after (boxes_of s.now)) }
+    ensures part { IfOk result (IsPart s.entry.ref_ptr s.now (body_start s.now (place_of kind s.now))) }
 {
+    let mut cursor = Cursor { at: 0 };
     let mut found = None;
-    for part in BoxReader::new(s) {
-        let part = part?;
+    while let Some(part) = cursor.next_box(s)? {
         if part.kind == kind {
             if found.is_some() {
                 return Err(Malformed);
             }
-            found = Some(part.body);
+            // Its place, since an invariant knows a slice's bytes, and not where they stand.
+            found = Some(cursor.at - part.body.len()..cursor.at);
         } else if part.kind == after && found.is_none() {
             return Err(Malformed);
         }
     }
-    found.ok_or(Malformed)
+    let body = found.ok_or(Malformed)?;
+    Ok(&s[body])
 }

@@ -3,7 +3,7 @@
 #![tactic(auto)]
 
 ghost use Rattle.std.specs.Prelude.{◌≡◌, length, drop, option_map};
-ghost use Rattle.boxes.specs.Boxes.{part_of, Gives};
+ghost use Rattle.boxes.specs.Boxes.{part_of, Gives, body_at, Stands};
 ghost use Rattle.segments.specs.Segments.{list_segment, row_count, rows_after};
 ghost use Rattle.segment_reader.specs.Steps.{step_from, place_after};
 
@@ -21,7 +21,8 @@ pub struct SegmentReader<'a> {
 
 // The box at a place.
 fn step_at(s: &[u8], at: usize) -> Result<Option<BoxPart<'_>>, Malformed>
-    ensures { Gives (λ found. option_map part_of found) result (step_from s.now at) }
+    ensures value { Gives (λ found. option_map part_of found) result (step_from s.now at) }
+    ensures stands { Stands result (body_at s.entry.ref_ptr s.now at) }
 {
     if s.len() < at {
         return Err(Malformed);
@@ -54,7 +55,8 @@ pub fn opened<'a>(segment: &'a [u8]) -> SegmentReader<'a>
 
 // The box at the reader's place.
 pub fn look<'a>(r: SegmentReader<'a>) -> Result<Option<BoxPart<'a>>, Malformed>
-    ensures { Gives (λ found. option_map part_of found) result (step_from r.entry.segment.now r.entry.at) }
+    ensures value { Gives (λ found. option_map part_of found) result (step_from r.entry.segment.now r.entry.at) }
+    ensures stands { Stands result (body_at r.entry.segment.ref_ptr r.entry.segment.now r.entry.at) }
 {
     step_at(r.segment, r.at)
 }
