@@ -3,8 +3,8 @@ use crate::calls::offered;
 use crate::lines::Line;
 use crate::marks::MOST_LENT;
 use crate::unread::Told;
+use arrayvec::ArrayVec;
 use script::words::{Unmade, Words};
-use std::alloc::{AllocError, Global};
 
 const LINES: usize = 1088; // the lines lent where the script says nothing
 
@@ -16,7 +16,7 @@ const MOST_FRAMES: usize = 65; // one more than a batch may have, as more are re
 pub struct Batch {
     pub line: Told,
     pub left: u32,
-    pub frames: Vec<[i64; 6]>,
+    pub frames: ArrayVec<[i64; 6], MOST_FRAMES>,
     pub lent: Option<usize>,
 }
 
@@ -45,23 +45,22 @@ pub fn frame_of(line: Line<'_>, mut words: Words<'_>) -> Result<[i64; 6], Unmade
 }
 
 impl Batch {
-    pub fn new(alloc: Global, line: Told, left: u32, lent: Option<usize>) -> Self {
+    pub fn new(line: Told, left: u32, lent: Option<usize>) -> Self {
         Batch {
             line,
             left,
-            frames: Vec::new(alloc),
+            frames: ArrayVec::new(),
             lent,
         }
     }
 
     // One of its frames came, or a line of one that could not be read.
-    pub fn come(&mut self, frame: Result<[i64; 6], Unmade>) -> Result<(), AllocError> {
+    pub fn come(&mut self, frame: Result<[i64; 6], Unmade>) {
         self.left = self.left.saturating_sub(1);
         match frame {
-            Ok(row) if self.frames.len() < MOST_FRAMES => self.frames.push(row)?,
-            Ok(_) => {}
+            Ok(_) if self.frames.is_full() => {}
+            Ok(row) => self.frames.push(row),
             Err(_) => self.lent = None,
         }
-        Ok(())
     }
 }

@@ -1,21 +1,16 @@
 // A line as a call on a buffer, all but creation, batches, pokes and the state.
 use crate::marks::MOST_LENT;
-use buffer_state::{Mode, Offered, PLACES};
+use buffer_state::{Offered, PLACES};
 use script::pokes::mode;
 use script::words::{Unmade, Words};
+use slot_calls::{LinesCall, RangesCall, SettingCall};
 
 #[derive(Clone, Copy)]
 pub enum Call {
-    Append { offered: Offered, lines: usize },
-    Remove { start: f64, end: f64, lines: usize },
-    Abort,
-    Mode(Mode),
-    Offset(f64),
-    WindowStart(f64),
-    WindowEnd(f64),
+    Lines { call: LinesCall, lines: usize },
+    Setting(SettingCall),
     Settings,
-    Ranges { track: u32, places: usize },
-    Common { places: usize },
+    Ranges { call: RangesCall, places: usize },
     Walked { track: u32, places: usize },
     Seek { track: u32, instant: i64 },
 }
@@ -45,8 +40,8 @@ fn places(words: &mut Words<'_>) -> Result<usize, Unmade> {
 }
 
 fn append(words: &mut Words<'_>) -> Result<Call, Unmade> {
-    Ok(Call::Append {
-        offered: offered(words)?,
+    Ok(Call::Lines {
+        call: LinesCall::Append(offered(words)?),
         lines: lines(words)?,
     })
 }
@@ -54,16 +49,15 @@ fn append(words: &mut Words<'_>) -> Result<Call, Unmade> {
 fn remove(words: &mut Words<'_>) -> Result<Call, Unmade> {
     let start = words.double()?;
     let end = words.double()?;
-    Ok(Call::Remove {
-        start,
-        end,
+    Ok(Call::Lines {
+        call: LinesCall::Remove(start, end),
         lines: lines(words)?,
     })
 }
 
 fn ranges(words: &mut Words<'_>) -> Result<Call, Unmade> {
     Ok(Call::Ranges {
-        track: words.natural()?,
+        call: RangesCall::Track(words.natural()?),
         places: places(words)?,
     })
 }
@@ -87,14 +81,15 @@ pub fn call_of(name: &[u8], mut words: Words<'_>) -> Result<Call, Unmade> {
     let call = match name {
         b"append" => append(&mut words)?,
         b"remove" => remove(&mut words)?,
-        b"abort" => Call::Abort,
-        b"mode" => Call::Mode(mode(words.word()?)?),
-        b"offset" => Call::Offset(words.double()?),
-        b"window-start" => Call::WindowStart(words.double()?),
-        b"window-end" => Call::WindowEnd(words.double()?),
+        b"abort" => Call::Setting(SettingCall::Abort),
+        b"mode" => Call::Setting(SettingCall::Mode(mode(words.word()?)?)),
+        b"offset" => Call::Setting(SettingCall::Offset(words.double()?)),
+        b"window-start" => Call::Setting(SettingCall::WindowStart(words.double()?)),
+        b"window-end" => Call::Setting(SettingCall::WindowEnd(words.double()?)),
         b"settings" => Call::Settings,
         b"ranges" => ranges(&mut words)?,
-        b"common" => Call::Common {
+        b"common" => Call::Ranges {
+            call: RangesCall::Common,
             places: places(&mut words)?,
         },
         b"walked" => walked(&mut words)?,

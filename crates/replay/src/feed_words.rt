@@ -2,13 +2,12 @@
 use crate::answers;
 use crate::answers::Answer;
 use crate::fault::Fault;
-use crate::segment_words::bytes_of;
+use crate::segment_words::{MOST_BYTES, bytes_of};
 use script::words::{Unmade, Words};
-use std::alloc::Global;
 use std::io::Write;
 
 // By the words after `feed`. A place beyond 32 bits overruns any line's bytes as the last of them does.
-pub fn call(alloc: Global, mut words: Words<'_>, out: &mut impl Write) -> Result<(), Fault> {
+pub fn call(mut words: Words<'_>, out: &mut impl Write) -> Result<(), Fault> {
     let whole = match words.word()? {
         b"init" => true,
         b"segment" => false,
@@ -16,9 +15,11 @@ pub fn call(alloc: Global, mut words: Words<'_>, out: &mut impl Write) -> Result
     };
     let start = words.natural()? as usize;
     let end = words.natural()? as usize;
-    let initialization = bytes_of(alloc, words.word()?)?;
-    let segment = bytes_of(alloc, words.last()?)?;
-    let fed = feed::feed(&initialization, &segment, whole, start, end);
+    let mut initialization = [0; MOST_BYTES];
+    let mut segment = [0; MOST_BYTES];
+    let initialization = bytes_of(words.word()?, &mut initialization)?;
+    let segment = bytes_of(words.last()?, &mut segment)?;
+    let fed = feed::feed(initialization, segment, whole, start, end);
     answers::tell(out, Ok(Answer::Fed(fed)), true)?;
     Ok(())
 }

@@ -2,11 +2,11 @@
 use crate::answers::{self, Answer, first};
 use crate::fault::Fault;
 use crate::marks::{self, MOST_LENT, TIME};
-use crate::segment_words::{bytes_of, track_asked};
+use crate::segment_words::{MOST_BYTES, bytes_of, track_asked};
+use buffer_state::Refusal;
 use lumps::LumpReader;
 use script::words::{Unmade, Words};
 use segments::SegmentTrack;
-use std::alloc::Global;
 use std::io::Write;
 
 const KEPT: usize = 65536; // the bytes of a buffer that a reader may use; as many are lent where the script says nothing
@@ -14,10 +14,10 @@ const KEPT: usize = 65536; // the bytes of a buffer that a reader may use; as ma
 const ROOM: usize = 131072; // the bytes of the buffer, as many as a script may ask for
 
 // A lump, whether it is the last, and how much is lent to the call.
-#[derive(Drop)]
-struct Lump {
+#[derive(Clone, Copy)]
+struct Lump<'a> {
     of: SegmentTrack,
-    bytes: Vec<u8>,
+    bytes: &'a [u8],
     last: bool,
     places: usize,
     room: usize,
@@ -35,15 +35,15 @@ fn lent_to(words: &mut Words<'_>) -> Result<(usize, usize), Unmade> {
     Ok((places.unwrap_or(MOST_LENT), room.unwrap_or(KEPT)))
 }
 
-// By the words after `lump`.
-fn lump_of(alloc: Global, mut words: Words<'_>) -> Result<Lump, Fault> {
+// By the words after `lump`. Its bytes are put into the room that is lent.
+fn lump_of<'a>(mut words: Words<'_>, room: &'a mut [u8]) -> Result<Lump<'a>, Unmade> {
     let last = match words.word()? {
         b"last" => true,
         b"more" => false,
-        _ => return Err(Fault::from(Unmade::Unknown)),
+        _ => return Err(Unmade::Unknown),
     };
     let of = track_asked(&mut words)?;
-    let bytes = bytes_of(alloc, words.word()?)?;
+    let bytes = bytes_of(words.word()?, room)?;
     let (places, room) = lent_to(&mut words)?;
     Ok(Lump {
         of,
@@ -52,6 +52,31 @@ fn lump_of(alloc: Global, mut words: Words<'_>) -> Result<Lump, Fault> {
         places,
         room,
     })
+}
+
+// The reader, lent the buffer and the first places of the rows.
+fn taken(
+    lump: Lump<'_>,
+    reader: &mut LumpReader,
+    buffer: &mut [u8],
+    rows: &mut [[i64; 6]],
+) -> Result<usize, Refusal> {
+    let places = lump.places.min(rows.len());
+    let list = &mut rows[..places];
+    lumps::take_lump(lump.of, reader, buffer, lump.bytes, lump.last, list)
+}
+
+// Frames are listed only where the lump is the last.
+fn answer(
+    given: Result<usize, Refusal>,
+    last: bool,
+    rows: &[[i64; 6]],
+) -> Result<Answer<'_>, Refusal> {
+    match given {
+        Ok(n) if last => Ok(Answer::Samples(first(rows, n))),
+        Ok(_) => Ok(Answer::Done),
+        Err(why) => Err(why),
+    }
 }
 
 #[derive(Clone, Copy)]
@@ -69,29 +94,25 @@ impl Lumps {
     }
 
     // The next lump, with rows that hold the marks. A call that is refused leaves all of the buffer as it was, any other what lies past the
-    // bytes that the reader may use. Frames are listed only where the lump is the last.
-    pub fn call(
-        &mut self,
-        alloc: Global,
-        words: Words<'_>,
-        out: &mut impl Write,
-    ) -> Result<(), Fault> {
-        let lump = lump_of(alloc, words)?;
-        let mut rows = vec![in alloc; [TIME; 6]; MOST_LENT]?;
-        let list = &mut rows[..lump.places.min(MOST_LENT)];
+    // bytes that the reader may use.
+    pub fn call(&mut self, words: Words<'_>, out: &mut impl Write) -> Result<(), Fault> {
+        let mut bytes = [0; MOST_BYTES];
+        let lump = lump_of(words, &mut bytes)?;
+        let mut lent = [[TIME; 6]; MOST_LENT];
+        let rows: &mut [[i64; 6]] = &mut lent;
         let before = self.buffer;
         let mut reader = self.reader;
         let buffer = &mut self.buffer[..lump.room.min(ROOM)];
-        let given = lumps::take_lump(lump.of, &mut reader, buffer, &lump.bytes, lump.last, list);
+        let given = taken(lump, &mut reader, buffer, rows);
         self.reader = reader;
-        let (used, written, answer) = match given {
-            Ok(n) if lump.last => (KEPT, n, Ok(Answer::Samples(first(&rows, n)))),
-            Ok(_) => (KEPT, 0, Ok(Answer::Done)),
-            Err(why) => (0, 0, Err(why)),
+        let (used, written) = match given {
+            Ok(n) if lump.last => (KEPT, n),
+            Ok(_) => (KEPT, 0),
+            Err(_) => (0, 0),
         };
         let untouched = before[used..] == self.buffer[used..]
-            && marks::untouched(&rows, written, [TIME; 6]);
-        answers::tell(out, answer, untouched)?;
+            && marks::untouched(rows, written, [TIME; 6]);
+        answers::tell(out, answer(given, lump.last, rows), untouched)?;
         Ok(())
     }
 

@@ -8,7 +8,6 @@ mod fault;
 mod feed_words;
 mod lines;
 mod lump;
-mod made;
 mod marks;
 mod on_slot;
 mod segment;
@@ -17,6 +16,7 @@ mod state;
 mod unread;
 
 use answers::{Answer, tell};
+use arrayvec::ArrayVec;
 use batches::{Batch, frame_of};
 use buffer_state::PLACES;
 use fault::Fault;
@@ -25,16 +25,14 @@ use lump::Lumps;
 use script::pokes;
 use script::words::{Unmade, Words, natural};
 use slots::{Session, Slot};
-use std::alloc::Global;
 use std::io;
-use std::io::{BufRead, BufReader, Write};
+use std::io::{Read, Write};
 use text::Output;
 use unread::{Told, Unread};
 
 // What is kept from line to line: the buffers; the reader of lumps, which needs none of them; the batch whose frames are to come.
 #[derive(Drop)]
 struct Replay {
-    alloc: Global,
     session: Session,
     lumps: Lumps,
     batch: Option<Batch>,
@@ -42,9 +40,8 @@ struct Replay {
 }
 
 impl Replay {
-    fn new(alloc: Global) -> Self {
+    fn new() -> Self {
         Replay {
-            alloc,
             session: Session::new(),
             lumps: Lumps::new(),
             batch: None,
@@ -63,12 +60,10 @@ impl Replay {
         let Ok(name) = words.word() else {
             return self.unknown(line, out);
         };
-        if let Some(batch) = self.batch.take() {
-            if name == b"frame".as_slice() {
-                return self.on_frame(batch, line, words, out);
-            }
-            self.cut_short(batch, out)?;
+        if self.batch.is_some() && name == b"frame".as_slice() {
+            return self.on_frame(line, words, out);
         }
+        self.cut_short(out)?;
         if line.cut {
             return self.unknown(line, out);
         }
@@ -82,7 +77,7 @@ impl Replay {
 
     // The line was not read.
     fn unknown(&mut self, line: Line<'_>, out: &mut impl Write) -> io::Result<()> {
-        self.unread.note(Told::of(self.alloc, line)?);
+        self.unread.note(Told::of(line));
         writeln!(out, "unknown")
     }
 
@@ -95,11 +90,11 @@ impl Replay {
     ) -> Result<(), Fault> {
         match name {
             b"batch" => self.begin_batch(line, words, out),
-            b"segment" => segment::call(self.alloc, words, out),
-            b"feed" => feed_words::call(self.alloc, words, out),
-            b"lump" => self.lumps.call(self.alloc, words, out),
+            b"segment" => segment::call(words, out),
+            b"feed" => feed_words::call(words, out),
+            b"lump" => self.lumps.call(words, out),
             b"lump-fresh" => self.lumps.fresh(words, out),
-            _ => on_session(&mut self.session, self.alloc, name, words, out),
+            _ => on_session(&mut self.session, name, words, out),
         }
     }
 
@@ -115,25 +110,26 @@ impl Replay {
         let left = words.natural()?;
         let lent = batches::lines(words).ok();
         if lent.is_none() {
-            self.unread.note(Told::of(self.alloc, line)?);
+            self.unread.note(Told::of(line));
         }
-        let batch = Batch::new(self.alloc, Told::of(self.alloc, line)?, left, lent);
-        self.go_on(batch, out)
+        self.batch = Some(Batch::new(Told::of(line), left, lent));
+        self.go_on(out)
     }
 
     fn on_frame(
         &mut self,
-        mut batch: Batch,
         line: Line<'_>,
         words: Words<'_>,
         out: &mut impl Write,
     ) -> io::Result<()> {
         let frame = frame_of(line, words);
         if frame.is_err() {
-            self.unread.note(Told::of(self.alloc, line)?);
+            self.unread.note(Told::of(line));
         }
-        batch.come(frame)?;
-        match self.go_on(batch, out) {
+        if let Some(batch) = &mut self.batch {
+            batch.come(frame);
+        }
+        match self.go_on(out) {
             Ok(()) => Ok(()),
             Err(Fault::Unmade(why)) => writeln!(out, "{why}"),
             Err(Fault::Io(why)) => Err(why),
@@ -141,34 +137,31 @@ impl Replay {
     }
 
     // A batch waits for its frames, and has its one answer once no frame is to come. Its lines that were not read are noted apart.
-    fn go_on(&mut self, batch: Batch, out: &mut impl Write) -> Result<(), Fault> {
-        if 0 < batch.left {
-            self.batch = Some(batch);
+    fn go_on(&mut self, out: &mut impl Write) -> Result<(), Fault> {
+        if self.batch.as_ref().is_some_and(|batch| 0 < batch.left) {
             return Ok(());
         }
+        let Some(batch) = self.batch.take() else {
+            return Ok(());
+        };
         let Some(lines) = batch.lent else {
             writeln!(out, "unknown")?;
             return Ok(());
         };
-        let slot = self.session.used.as_mut().ok_or(Unmade::NoBuffer)?;
-        on_slot::batch(self.alloc, slot, &batch.frames, lines, out)?;
+        let slot = self.session.used_mut().ok_or(Unmade::NoBuffer)?;
+        on_slot::batch(slot, &batch.frames, lines, out)?;
         Ok(())
     }
 
-    // A batch whose frames do not all come. Where each line that came was read, it is the batch's own that was not.
-    fn cut_short(&mut self, batch: Batch, out: &mut impl Write) -> io::Result<()> {
+    // A batch whose frames do not all come, if there is one. Where each line that came was read, it is the batch's own that was not.
+    fn cut_short(&mut self, out: &mut impl Write) -> io::Result<()> {
+        let Some(batch) = self.batch.take() else {
+            return Ok(());
+        };
         if batch.lent.is_some() {
             self.unread.note(batch.line);
         }
         writeln!(out, "unknown")
-    }
-
-    // The script ends.
-    fn end(&mut self, out: &mut impl Write) -> io::Result<()> {
-        match self.batch.take() {
-            Some(batch) => self.cut_short(batch, out),
-            None => Ok(()),
-        }
     }
 }
 
@@ -177,7 +170,6 @@ impl Replay {
 // A call of this name on the session, or on the buffer of the slot in use.
 fn on_session(
     session: &mut Session,
-    alloc: Global,
     name: &[u8],
     words: Words<'_>,
     out: &mut impl Write,
@@ -193,9 +185,9 @@ fn on_session(
             session.restore().ok_or(Unmade::NoBuffer)?
         }
         b"poke" => poke(session, words)?,
-        b"create" => return create(session, alloc, words, out),
+        b"create" => return create(session, words, out),
         b"state" => return tell_state(session, words, out),
-        _ => return on_buffer(session, alloc, name, words, out),
+        _ => return on_buffer(session, name, words, out),
     }
     tell(out, Ok(Answer::Done), true)?;
     Ok(())
@@ -210,11 +202,17 @@ fn use_slot(session: &mut Session, words: Words<'_>) -> Result<(), Unmade> {
     Ok(())
 }
 
-// A poke that cannot be read is told before one that has no buffer, so that one is put to a buffer that no call is made on.
 fn poke(session: &mut Session, words: Words<'_>) -> Result<(), Unmade> {
-    if let Some(slot) = &mut session.used {
-        return pokes::poke(slot, words);
+    match session.used_mut() {
+        Some(slot) => pokes::poke(slot, words),
+        None => poke_nothing(words),
     }
+}
+
+// A poke that cannot be read is told before one that has no buffer, so that one is put to a buffer that no call is made on. In a frame of its
+// own, so that no other poke lays that buffer out.
+#[inline(never)]
+fn poke_nothing(words: Words<'_>) -> Result<(), Unmade> {
     let mut stand_in = Slot::of(settings::no_head(), [[0; 2]; PLACES], [[0; 5]; PLACES]);
     match pokes::poke(&mut stand_in, words) {
         Err(Unmade::Unknown) => Err(Unmade::Unknown),
@@ -227,79 +225,68 @@ fn kind(word: &[u8]) -> Result<u8, Unmade> {
     Ok(u8::try_from(natural(word)?).unwrap_or(u8::MAX))
 }
 
-// The kinds of tracks, all the words that are left.
-fn kinds(alloc: Global, words: Words<'_>) -> Result<Vec<u8>, Fault> {
-    let mut kinds = Vec::new(alloc);
+// The kinds of tracks, all the words that are left. One more is kept than a buffer has tracks, as more are refused alike.
+fn kinds(words: Words<'_>) -> Result<ArrayVec<u8, 5>, Unmade> {
+    let mut kinds = ArrayVec::new();
     if let Some(rest) = words.rest() {
         for word in rest.split(|b| *b == b' ') {
-            kinds.push(kind(word)?)?;
+            let kind = kind(word)?;
+            if !kinds.is_full() {
+                kinds.push(kind);
+            }
         }
     }
     Ok(kinds)
 }
 
-fn create(
-    session: &mut Session,
-    alloc: Global,
-    words: Words<'_>,
-    out: &mut impl Write,
-) -> Result<(), Fault> {
-    let kinds = kinds(alloc, words)?;
-    match made::create(&kinds) {
-        Ok(slot) => {
-            session.used = Some(slot);
-            tell(out, Ok(Answer::Done), true)?;
-        }
-        Err(why) => tell(out, Err(why), true)?,
-    }
+fn create(session: &mut Session, words: Words<'_>, out: &mut impl Write) -> Result<(), Fault> {
+    let kinds = kinds(words)?;
+    let given = slot_calls::create(session.slot_mut(), &kinds);
+    tell(out, given.map(|_| Answer::Done), true)?;
     Ok(())
 }
 
 fn tell_state(session: &Session, words: Words<'_>, out: &mut impl Write) -> Result<(), Fault> {
     words.end()?;
-    let slot = session.used.as_ref().ok_or(Unmade::NoBuffer)?;
+    let slot = session.used().ok_or(Unmade::NoBuffer)?;
     tell(out, Ok(Answer::State(slot)), true)?;
     Ok(())
 }
 
 fn on_buffer(
     session: &mut Session,
-    alloc: Global,
     name: &[u8],
     words: Words<'_>,
     out: &mut impl Write,
 ) -> Result<(), Fault> {
     let call = calls::call_of(name, words)?;
-    let slot = session.used.as_mut().ok_or(Unmade::NoBuffer)?;
-    on_slot::call(alloc, slot, call, out)?;
+    let slot = session.used_mut().ok_or(Unmade::NoBuffer)?;
+    on_slot::call(slot, call, out)?;
     Ok(())
 }
 
 // ---- the run
 
-fn answer_all<R: BufRead + Drop>(
+fn answer_all<R: Read + Drop>(
     replay: &mut Replay,
     lines: &mut Lines<R>,
     out: &mut impl Write,
 ) -> io::Result<()> {
     for _ in 0..u64::MAX {
-        if !lines.advance()? {
+        if !lines.advance() {
             break;
         }
         replay.on_line(lines.line(), out)?;
     }
-    replay.end(out)
+    replay.cut_short(out)
 }
 
-// What was not read or not written is told also where memory was lacking, which alone ends a run before its script does.
-fn main(rt: HostRuntime) -> io::Result<()> {
-    let alloc = rt.alloc();
-    let mut lines = Lines::new(alloc, BufReader::new(alloc, rt.reader())?);
+fn main(rt: HostRuntime) {
+    let mut lines = Lines::new(rt.reader());
     let mut out = Output::new(rt.stdout());
-    let mut replay = Replay::new(alloc);
-    let ended = answer_all(&mut replay, &mut lines, &mut out);
+    let mut replay = Replay::new();
+    let _ = answer_all(&mut replay, &mut lines, &mut out); // each write to an Output is answered as done
     let mut error = rt.stderr();
     let _ = replay.unread.tell(&mut error); // where that fails, nothing more can be said
     out.tell_failed("replay", &mut error);
-    ended
 }

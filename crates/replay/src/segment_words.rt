@@ -1,9 +1,10 @@
 // The words that `segment` and `lump` have alike: the numbers that say what is asked for, and the bytes.
-use crate::fault::Fault;
+use crate::lines::ROOM;
 use fragments::Defaults;
 use script::words::{Unmade, Words};
 use segments::SegmentTrack;
-use std::alloc::Global;
+
+pub const MOST_BYTES: usize = ROOM / 2; // more than a line has digits for
 
 // The six words that come next. Each is of 32 bits, the track number too: a frame carries it, so that no other can stand for one beyond
 // them.
@@ -26,17 +27,18 @@ pub fn track_asked(words: &mut Words<'_>) -> Result<SegmentTrack, Unmade> {
     })
 }
 
-// The bytes of a word that has two digits in lower case for each; no bytes are `-`. The empty word stands for nothing.
-pub fn bytes_of(alloc: Global, word: &[u8]) -> Result<Vec<u8>, Fault> {
+// The bytes of a word that has two digits in lower case for each, put into the room that is lent; no bytes are `-`. The empty word stands for
+// nothing.
+pub fn bytes_of<'a>(word: &[u8], room: &'a mut [u8]) -> Result<&'a [u8], Unmade> {
     if word == b"-".as_slice() {
-        return Ok(Vec::new(alloc));
+        return Ok(&[]);
     }
     if word.is_empty() || word.iter().any(|b| b.is_ascii_uppercase()) {
-        return Err(Fault::from(Unmade::Unknown));
+        return Err(Unmade::Unknown);
     }
-    let mut bytes = vec![in alloc; 0; word.len() / 2]?;
-    match hex::decode_to_slice(word, &mut bytes) {
+    let bytes = room.get_mut(..word.len() / 2).ok_or(Unmade::Unknown)?;
+    match hex::decode_to_slice(word, bytes) {
         Ok(()) => Ok(bytes),
-        Err(_) => Err(Fault::from(Unmade::Unknown)),
+        Err(_) => Err(Unmade::Unknown),
     }
 }

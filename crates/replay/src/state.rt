@@ -1,5 +1,5 @@
 // The whole state of a buffer, as the call `state` answers it: also what pokes left is told as it lies.
-use buffer_state::{Group, Mode, Setting, Settings, Track, WindowEnd};
+use buffer_state::{Frame, Group, Mode, Setting, Settings, Track, WindowEnd};
 use slots::Slot;
 use std::fmt;
 use text::Double;
@@ -109,9 +109,16 @@ fn frame<W: fmt::Write>(
     tags: [u32; 5],
     beside: Option<i64>,
 ) -> fmt::Result {
-    let [pts, dts] = times;
-    let [track, flag, duration, number, group] = tags;
-    let flag = u8::from(flag == 1);
+    let Frame {
+        track,
+        flagged,
+        duration,
+        number,
+        group,
+        pts,
+        dts,
+    } = places::frame_of(times, tags);
+    let flag = u8::from(flagged);
     let group = beside.unwrap_or(i64::from(group));
     write!(
         f,

@@ -1,31 +1,34 @@
 // The lines that could not be read: how many, and the number and the text of the first, told on standard error at the end.
 use crate::lines::Line;
-use std::alloc::{AllocError, Global};
+use arrayvec::ArrayVec;
 use std::io;
 use std::io::Write;
 
 const SHOWN: usize = 200; // the bytes of a line that are told
 
+const TOLD: usize = 203; // they, and ` ..` after them
+
 // A line's number, and its text as it is told: the first bytes, with a question mark for each control character.
 #[derive(Drop)]
 pub struct Told {
     number: u64,
-    text: Vec<u8>,
+    text: ArrayVec<u8, TOLD>,
 }
 
 impl Told {
-    pub fn of(alloc: Global, line: Line<'_>) -> Result<Self, AllocError> {
-        let mut text = Vec::new(alloc);
+    // There is room for all that is put into the text.
+    pub fn of(line: Line<'_>) -> Self {
+        let mut text = ArrayVec::new();
         for byte in line.text.iter().take(SHOWN) {
-            text.push(if byte.is_ascii_control() { b'?' } else { *byte })?;
+            let _ = text.try_push(if byte.is_ascii_control() { b'?' } else { *byte });
         }
         if SHOWN < line.text.len() {
-            text.extend_from_slice(b" ..")?;
+            let _ = text.try_extend_from_slice(b" ..");
         }
-        Ok(Told {
+        Told {
             number: line.number,
             text,
-        })
+        }
     }
 }
 

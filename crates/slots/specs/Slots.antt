@@ -62,14 +62,27 @@ handed_of slot = cond (holds_all slot) slot.head (overfull_head slot.head)
 
 -- no buffer yet, nothing saved, the first slot in use
 abbrev pub fresh_session : Session
-fresh_session = record { used = None; other = None; saved = None; second_used = false }
+fresh_session = record { first = None; second = None; saved = None; second_used = false }
 
 -- the buffers of the two slots, whichever is in use
 abbrev pub first_of : Session → Option Slot
-first_of s = cond s.second_used s.other s.used
+first_of s = s.first
 
 abbrev pub second_of : Session → Option Slot
-second_of s = cond s.second_used s.used s.other
+second_of s = s.second
+
+-- the buffer of the slot in use
+abbrev pub used_of : Session → Option Slot
+used_of s = cond s.second_used s.second s.first
+
+-- the session with this in the slot in use: the other slot and the state that was saved stay
+abbrev pub with_used : Session → Option Slot → Session
+with_used s used = record {
+  first = cond s.second_used s.first used;
+  second = cond s.second_used used s.second;
+  saved = s.saved;
+  second_used = s.second_used;
+}
 
 -- one, or where it is none the other
 abbrev pub first_some : Option Slot → Option Slot → Option Slot
@@ -79,17 +92,12 @@ first_some None other = other
 -- the session with the state of the slot in use saved, where there is one: its frames are the slot's, to the last place
 abbrev pub saved_of : Session → Session
 saved_of s = record {
-  used = s.used;
-  other = s.other;
-  saved = first_some s.used s.saved;
+  first = s.first;
+  second = s.second;
+  saved = first_some (used_of s) s.saved;
   second_used = s.second_used;
 }
 
 -- the session with the state that was saved last in the slot in use, where there is one
 abbrev pub restored_of : Session → Session
-restored_of s = record {
-  used = first_some s.saved s.used;
-  other = s.other;
-  saved = s.saved;
-  second_used = s.second_used;
-}
+restored_of s = with_used s (first_some s.saved (used_of s))

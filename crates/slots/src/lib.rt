@@ -1,11 +1,13 @@
 #![tactic(auto)]
 // The two buffers of a session and the state that it saved: each a head with its stored frames, and what pokes may leave beside them.
 ghost use Rattle.std.specs.Prelude.{◌≡◌, ◌↔◌, IsSome};
+ghost use Rattle.std.specs.Borrow.{sem};
 ghost use Rattle.std.specs.List.{list_all};
-ghost use Rattle.slots.specs.Slots.{set_of, sets_of, slot_of, together_of, head_holds, holds_all, handed_of, fresh_session, first_of, second_of, saved_of, restored_of};
+ghost use Rattle.std.specs.Option.{option_copied, option_copied_mut};
+ghost use Rattle.slots.specs.Slots.{set_of, sets_of, slot_of, together_of, head_holds, holds_all, handed_of, fresh_session, first_of, second_of, used_of, saved_of, restored_of};
+ghost use Rattle.slots.specs.Lending.{LendsSlot, LendsUsed};
 
 use buffer_state::{Head, Tags, Times, Track};
-use std::mem;
 
 // Which of a track's last decode time, last duration and highest end are set.
 #[derive(Clone, Copy, Debug, PartialEq, Eq)]
@@ -120,12 +122,11 @@ impl Slot {
     }
 }
 
-// The buffer of the slot in use, that of the other one, and the state that was saved last; none where there is none. At first the first
-// slot is in use.
+// The buffers of the two slots, the state that was saved last, none where there is none, and which slot is in use: at first the first.
 #[derive(Clone, Copy)]
 pub struct Session {
-    pub used: Option<Slot>,
-    pub other: Option<Slot>,
+    pub first: Option<Slot>,
+    pub second: Option<Slot>,
     pub saved: Option<Slot>,
     pub second_used: bool,
 }
@@ -135,8 +136,8 @@ impl Session {
         ensures { result ≡ fresh_session }
     {
         Session {
-            used: None,
-            other: None,
+            first: None,
+            second: None,
             saved: None,
             second_used: false,
         }
@@ -149,18 +150,50 @@ impl Session {
         ensures second { second_of self.new ≡ second_of self.old }
         ensures saved { self.new.saved ≡ self.old.saved }
     {
-        if self.second_used != second {
-            mem::swap(&mut self.used, &mut self.other);
-            self.second_used = second;
+        self.second_used = second;
+    }
+
+    // The buffer of the slot in use.
+    pub fn used(&self) -> Option<&Slot>
+        ensures { option_copied result ≡ used_of self.now }
+    {
+        if self.second_used {
+            self.second.as_ref()
+        } else {
+            self.first.as_ref()
         }
+    }
+
+    // The slot in use, lent for a buffer to come into it. What else the session holds stays.
+    pub fn slot_mut(&mut self) -> &mut Option<Slot>
+        ensures* writes_back { sem 𝓛 (LendsSlot self.entry result) }
+        ensures value { result.now ≡ used_of self.old }
+    {
+        if self.second_used {
+            &mut self.second
+        } else {
+            &mut self.first
+        }
+    }
+
+    // Its buffer, lent for change.
+    pub fn used_mut(&mut self) -> Option<&mut Slot>
+        ensures* writes_back { sem 𝓛 (LendsUsed self.entry result) }
+        ensures value { option_copied_mut result ≡ used_of self.old }
+    {
+        self.slot_mut().as_mut()
     }
 
     // The state of the slot in use is copied aside, frames and all, where there is one.
     pub fn save(&mut self) -> Option<()>
-        ensures held { IsSome result ↔ IsSome self.old.used }
+        ensures held { IsSome result ↔ IsSome (used_of self.old) }
         ensures session { self.new ≡ saved_of self.old }
     {
-        self.saved = Some(self.used?);
+        if self.second_used {
+            self.saved = Some(self.second?);
+        } else {
+            self.saved = Some(self.first?);
+        }
         Some(())
     }
 
@@ -169,7 +202,11 @@ impl Session {
         ensures held { IsSome result ↔ IsSome self.old.saved }
         ensures session { self.new ≡ restored_of self.old }
     {
-        self.used = Some(self.saved?);
+        if self.second_used {
+            self.second = Some(self.saved?);
+        } else {
+            self.first = Some(self.saved?);
+        }
         Some(())
     }
 }
